@@ -1,0 +1,6 @@
+pub mod Bools
+pub mod Lists
+pub mod Loop
+pub mod Lay
+pub mod Signed
+pub mod Ring

@@ -1,0 +1,1 @@
+// The templates of the three kinds of cell, their turns and least form.
