@@ -1,8 +1,14 @@
 // Points and the box product of four of them; the numbers of vertices and of tetrahedra, kept apart by their types.
 ghost use mathlib.Core.Path.{_≡_};
+ghost use mathlib.Core.List.{[], _∷_};
+ghost use Prim.Native.Nat.{_/_, _<_};
+ghost use lib.ListN.{length, getD};
 ghost use lib.IntN.{_+ℤ_, _-ℤ_, _*ℤ_};
+ghost use Rattle.base.specs.Lists.{all, isIn};
 ghost use Rattle.base.specs.Size.{Small};
 ghost use Rattle.space.specs.Box.{near, nearPoint, from, det, box, boxed, Sized};
+ghost use Rattle.space.specs.Mesh.{point};
+ghost use Rattle.space.specs.Arrays.{row4, meshOf, Close};
 
 // The number of a vertex, and the number of a tetrahedron.
 pub struct Vertex(pub u16);
@@ -103,4 +109,62 @@ pub fn box_product(p: Point, q: Point, r: Point, s: Point) -> Boxed
     } else {
         Boxed::Refused
     }
+}
+
+// ---- the mesh in working arrays
+
+// The point of a vertex; the origin where there is no such vertex.
+pub fn point_at(coords: &[i64], v: Vertex) -> Point
+    requires { ⌜ Close (now coords) ⌝ }
+    ensures { λ r. ⌜ (r ≡ point (meshOf (now (coords .entry)) [] []) (v .0)) × Sized 50000 r ⌝ }
+{
+    let at = v.0 as usize;
+    if at < coords.len() / 3 {
+        Point {
+            x: coords[3 * at],
+            y: coords[3 * at + 1],
+            z: coords[3 * at + 2],
+        }
+    } else {
+        Point { x: 0, y: 0, z: 0 }
+    }
+}
+
+// v is a vertex of the tetrahedron.
+pub fn tet_has(labels: &[u16], e: Tet, v: Vertex) -> bool
+    requires { ⌜ e .0 < length (now labels) / 4 ⌝ }
+    ensures { λ r. ⌜ r ≡ isIn (v .0) (row4 (now (labels .entry)) (e .0)) ⌝ }
+{
+    let at = 4 * (e.0 as usize);
+    let x = v.0;
+    if x == labels[at] {
+        return true;
+    }
+    if x == labels[at + 1] {
+        return true;
+    }
+    if x == labels[at + 2] {
+        return true;
+    }
+    x == labels[at + 3]
+}
+
+pub fn tet_has2(labels: &[u16], e: Tet, u: Vertex, v: Vertex) -> bool
+    requires { ⌜ e .0 < length (now labels) / 4 ⌝ }
+    ensures { λ r. ⌜ r ≡ all (λ x. isIn x (row4 (now (labels .entry)) (e .0))) (u .0 ∷ v .0 ∷ []) ⌝ }
+{
+    if !tet_has(labels, e, u) {
+        return false;
+    }
+    tet_has(labels, e, v)
+}
+
+pub fn tet_has3(labels: &[u16], e: Tet, u: Vertex, v: Vertex, w: Vertex) -> bool
+    requires { ⌜ e .0 < length (now labels) / 4 ⌝ }
+    ensures { λ r. ⌜ r ≡ all (λ x. isIn x (row4 (now (labels .entry)) (e .0))) (u .0 ∷ v .0 ∷ w .0 ∷ []) ⌝ }
+{
+    if !tet_has(labels, e, u) {
+        return false;
+    }
+    tet_has2(labels, e, v, w)
 }
