@@ -1,1 +1,30 @@
 // The templates of the three kinds of cell, their turns and least form.
+mod tables;
+
+pub use tables::HEX_EDGES;
+pub use tables::HEX_INSIDE;
+pub use tables::HEX_LESS;
+pub use tables::HEX_ORDER;
+pub use tables::HEX_PLACES;
+pub use tables::HEX_QUADS;
+pub use tables::HEX_TRIANGLES;
+pub use tables::HEX_TRIPLES;
+pub use tables::HEX_TURNS;
+pub use tables::PRISM_EDGES;
+pub use tables::PRISM_INSIDE;
+pub use tables::PRISM_LESS;
+pub use tables::PRISM_ORDER;
+pub use tables::PRISM_PLACES;
+pub use tables::PRISM_QUADS;
+pub use tables::PRISM_TRIANGLES;
+pub use tables::PRISM_TRIPLES;
+pub use tables::PRISM_TURNS;
+pub use tables::PYRAMID_EDGES;
+pub use tables::PYRAMID_INSIDE;
+pub use tables::PYRAMID_LESS;
+pub use tables::PYRAMID_ORDER;
+pub use tables::PYRAMID_PLACES;
+pub use tables::PYRAMID_QUADS;
+pub use tables::PYRAMID_TRIANGLES;
+pub use tables::PYRAMID_TRIPLES;
+pub use tables::PYRAMID_TURNS;
