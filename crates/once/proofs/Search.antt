@@ -144,7 +144,7 @@ module _ (m : Mesh) (t : Template) (flat : (u : List ℕ) → hasEdges m t (at u
   unfolding found cellsOf universe narrow letters
   found-is e = ap (map (λ c. cell (t .kind) c (numbersOf m t c))) (kept e)
 
-found-hexahedra : (m : Mesh) → found m hexahedron ≡ cellsOf m hexahedron
+pub found-hexahedra : (m : Mesh) → found m hexahedron ≡ cellsOf m hexahedron
 unfolding edgesAt arePlaces isPlace equal hasEdges
 found-hexahedra m = found-is m hexahedron (λ u. refl) refl
 
