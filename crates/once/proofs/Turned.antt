@@ -18,6 +18,7 @@ use Rattle.templates.specs.Tables.{Template, templates, at}
 use Rattle.templates.proofs.Tests.{equal-eq, part, either, or-comm, covers, all-over, any-over, inRange, at-at}
 use Rattle.templates.proofs.Turns.{goesTo, cornerTo, even, odd, cornerTests, tableTests, keeps, row-keeps, row-corners, goes-all, goes-any, size, corners-all, corners-any, turned-length, turned-distinct}
 use Rattle.cells.specs.Cells.{first, second, corner3, inside, one, noneOrTwo, isTuple, hasEdges, isFacet, isSplit, hasFaces, boxAt, isSound, belongs, tetsOf, numbersFrom, numbersOf, sides, isOnce, isPaired, isCovered, isFilledBy, isFilled, isOnePart, isCell}
+use Rattle.once.specs.Turned.{Same}
 
 -- ---- the test of a row, for what condition 5 says of faces
 
@@ -206,18 +207,7 @@ module _ (t : Template) (r c : List ℕ) (k : keeps t r ≡ true) (g : every (fa
 
 -- ---- each rotation of each kind
 
--- each of conditions 1 to 6 is the same at every turn of a tuple, and so are its tetrahedra
-pub record Same (m : Mesh) (t : Template) (c d : List ℕ) : Type 0 where
-  pub tuple : isTuple m t c ≡ isTuple m t d
-  pub edges : hasEdges m t c ≡ hasEdges m t d
-  pub faces : hasFaces m t c ≡ hasFaces m t d
-  pub sound : isSound m t c ≡ isSound m t d
-  pub filled : isFilled m t c ≡ isFilled m t d
-  pub onePart : isOnePart m t c ≡ isOnePart m t d
-  pub cell : isCell m t c ≡ isCell m t d
-  pub tets : tetsOf m t c ≡ tetsOf m t d
-  pub numbers : numbersOf m t c ≡ numbersOf m t d
-
+-- each of conditions 1 to 6 has the same truth at every turn of a tuple, and its tetrahedra are the same
 pub same : (m : Mesh) {t : Template} {r : List ℕ} → List·Memᴰ t templates → List·Memᴰ r (t .turns) → (c : List ℕ) → length c ≡ t .corners → Same m t (at c r) c
 same m {t} {r} h j c l =
     let k = row-keeps h j in
