@@ -1,4 +1,5 @@
--- The calls of the search from a mark before all that passes give the filter of all tuples in order. Assumes nothing.
+-- The calls of the search from a mark before all that passes give the filter of all tuples in order.
+-- Assumes nothing.
 use mathlib.Core.Path.{_≡_, refl, sym, _∙_, ap, subst}
 use mathlib.Core.Bool.{Bool, true, false, cond, true≢false}
 use mathlib.Core.Logic.{_⊎_, inl, inr, ⊎-elim}
@@ -10,7 +11,7 @@ use lib.ListN.{getD}
 use Rattle.base.specs.Lists.{keep}
 use Rattle.portions.specs.Tuples.{Agree, Lt, Le, LeastAfter, stack, tuples}
 use Rattle.portions.proofs.Search.{Laws}
-use Rattle.portions.proofs.Listing.{Rising, All, Some, Same, Full, Listed, listed-full, full-unique}
+use Rattle.portions.proofs.Calls.{Rising, All, Some, Same, Full, Listed, listed-full, full-unique}
 
 -- each is before all that follow
 abbrev Sorted : ℕ → List (List ℕ) → Type 0
@@ -56,7 +57,7 @@ sorted-append : (k : ℕ) (xs ys : List (List ℕ)) → Sorted k xs → Sorted k
 sorted-append k [] ys a b h = b
 sorted-append k (x ∷ xs) ys a b h = (all-append (Lt k x) xs ys (a .0) (h .0), sorted-append k xs ys (a .1) b (h .1))
 
--- ---- a number in front
+-- ── a number in front
 agree-cons : (k c : ℕ) (x y : List ℕ) → Agree k x y → Agree (suc k) (c ∷ x) (c ∷ y)
 agree-cons k c x y a zero l = refl
 agree-cons k c x y a (suc j) l = a j (omega arith)
@@ -93,7 +94,7 @@ unfolding tuples
 tuples-sorted n zero = (tt, tt)
 tuples-sorted n (suc k) = stack-sorted k n (tuples n k) (tuples-sorted n k)
 
--- ---- every tuple is there
+-- ── every tuple is there
 stack-has : (P : List ℕ → Type 0) (c v : ℕ) (ts : List (List ℕ)) → v < c → Some (λ (t : List ℕ). P (v ∷ t)) ts → Some P (stack c ts)
 unfolding stack
 stack-has P zero v ts l i = absurd (let z : ⊥ = omega arith in z)
@@ -125,7 +126,7 @@ tuples-has n (suc k) s h =
     front t a zero l = refl
     front t a (suc j) l = a j (omega arith) ∙ tail-at s j
 
--- ---- the filter
+-- ── the filter
 module _ (f : List ℕ → Bool) where
   one-all : (P : List ℕ → Type 0) (t : List ℕ) (ks : List (List ℕ)) (b : Bool) → P t → All P ks → All P (cond b (t ∷ ks) ks)
   one-all P t ks true p a = (p, a)

@@ -1,4 +1,5 @@
--- The plain mathematics of the search. Assumes nothing.
+-- The plain mathematics of the search.
+-- Assumes nothing.
 use mathlib.Core.Path.{_≡_, refl, sym, _∙_, ap, subst}
 use mathlib.Core.Bool.{Bool, true, false, true≢false, false≢true}
 use mathlib.Core.Logic.{_⊎_, inl, inr, ⊎-elim}
@@ -15,7 +16,7 @@ use Rattle.portions.specs.Tuples.{Agree, Lt, Le, LeastAfter, Sought}
 pub missed-more : (P : ℕ → Type 0) (lo c : ℕ) → ((x : ℕ) → lo ≤ x → x < c → P x → ⊥) → (P c → ⊥) → (x : ℕ) → lo ≤ x → x < c + 1 → P x → ⊥
 missed-more P lo c all here x a b p = elim (decLt x c) [ yes h ↦ all x a h p | no h ↦ here (subst P (let e : x ≡ c = omega arith in e) p) ]
 
--- ---- the order
+-- ── the order
 -- where two tuples part, as seen from level d: above it, at it, or below it
 pub cut : (d k : ℕ) (x y : List ℕ) → Lt k x y → Lt d x y ⊎ ((Agree d x y × (getD x d 0 < getD y d 0)) ⊎ (Agree (d + 1) x y × (d + 1 < k)))
 cut d k x y h =
@@ -31,7 +32,7 @@ cut d k x y h =
 pub below : (t : List ℕ) (d c j : ℕ) → j < d → getD (set t d c) j 0 ≡ getD t j 0
 below t d c j l = getD-set-other t d j c 0 (λ e. omega arith)
 
--- ---- the search's place: the corners of t below d are fixed, and lo is the next candidate at d
+-- ── the search's place: the corners of t below d are fixed, and lo is the next candidate at d
 -- s is at or after the place
 abbrev pub Ahead : List ℕ → ℕ → ℕ → List ℕ → Type 0
 Ahead t d lo s = Lt d t s ⊎ (Agree d t s × (lo ≤ getD s d 0))

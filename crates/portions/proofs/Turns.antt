@@ -1,4 +1,5 @@
--- The measure of the search: how many turns are left, at most. Assumes nothing.
+-- The measure of the search: how many turns are left, at most.
+-- Assumes nothing.
 use mathlib.Core.Path.{_≡_, refl, sym, _∙_, ap, ap₂, subst}
 use mathlib.Core.List.{List, [], _∷_}
 use Prim.Native.Nat.{ℕ, zero, suc, _≤_, _<_, _+_, _-_, _*_}

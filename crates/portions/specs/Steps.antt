@@ -7,6 +7,7 @@ use mathlib.Core.Logic.{_⊎_}
 use mathlib.Core.List.{List, _++_, List·Memᴰ}
 use lib.ListN.{length}
 use Rattle.base.specs.Lists.{all}
+use Rattle.portions.specs.Tuples.{Agree, Lt}
 use Rattle.portions.specs.Portions.{Rule, isAfter, after, lastMark}
 
 module _ {A : Type 0} (rule : Rule A) (full : List A) where
@@ -23,3 +24,15 @@ module _ {A : Type 0} (rule : Rule A) (full : List A) where
     pub fit : all (rule .fits) done ≡ true
     pub within : length done ≤ room / rule .size
     pub reached : j ≡ lastMark rule k done
+
+-- the cells of one kind are what tuples of this many corners make that pass `leaf`, and they rise with their tuples
+pub record Kind {A : Type 0} (rule : Rule A) (cells : List A) (corners : ℕ) (leaf : List ℕ → Bool) (make : List ℕ → A) : Type 0 where
+  pub has : (s : List ℕ) → leaf s ≡ true → List·Memᴰ (make s) cells
+  pub of : {c : A} → List·Memᴰ c cells → (s : List ℕ) × (leaf s ≡ true) × (c ≡ make s)
+  pub same : (s t : List ℕ) → Agree corners s t → make s ≡ make t
+  pub rise : (s t : List ℕ) → leaf s ≡ true → leaf t ≡ true → Lt corners s t → isAfter rule (rule .mark (make s)) (make t) ≡ true
+
+-- of one kind, the cells after the mark k are those of the tuples after v
+pub record Alike {A : Type 0} (rule : Rule A) (corners : ℕ) (leaf : List ℕ → Bool) (make : List ℕ → A) (k v : List ℕ) : Type 0 where
+  pub later : (s : List ℕ) → leaf s ≡ true → Lt corners v s → isAfter rule k (make s) ≡ true
+  pub only : (s : List ℕ) → leaf s ≡ true → isAfter rule k (make s) ≡ true → Lt corners v s

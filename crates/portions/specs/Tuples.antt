@@ -6,6 +6,11 @@ use mathlib.Core.Logic.{_⊎_}
 use mathlib.Core.List.{List, [], _∷_, _++_, map}
 use Prim.Native.Nat.{ℕ, zero, suc, _≤_, _<_}
 use lib.ListN.{getD}
+use Rattle.base.specs.Lists.{upTo}
+
+-- the first k entries
+abbrev pub front : ℕ → List ℕ → List ℕ
+front k s = map (λ i. getD s i 0) (upTo k)
 
 -- s and t have the same first k entries
 abbrev pub Agree : ℕ → List ℕ → List ℕ → Type 0

@@ -1,67 +1,13 @@
--- Calls of the search, each from what the last one returned, give the sorted list of all that pass. Assumes nothing.
-use mathlib.Core.Path.{_≡_, refl, sym, _∙_, ap, subst}
-use mathlib.Core.Bool.{Bool, true, false, true≢false}
+-- Calls of a search, each from what the last one returned, give the sorted list of all that pass.
+-- Assumes nothing.
+use mathlib.Core.Path.{_≡_, refl, sym}
+use mathlib.Core.Bool.{Bool, true, false}
 use mathlib.Core.Logic.{_⊎_, inl, inr, ⊎-elim}
 use mathlib.Core.List.{List, [], _∷_, _++_}
-use Prim.Native.Nat.{ℕ, zero, suc, _≤_, _<_, _+_}
-use native.Mathlib.Omega.{arith}
-use native.Mathlib.Decide.{decLt}
-use lib.ListN.{getD}
+use Prim.Native.Nat.{ℕ}
 use Rattle.portions.specs.Tuples.{Agree, Lt, Le, LeastAfter}
+use Rattle.portions.proofs.Tuples.{lt-irrefl, lt-trans, lt-agree, agree-lt, le-antisym}
 
--- ---- the order is an order
-pub lt-irrefl : (k : ℕ) (x y : List ℕ) → Agree k x y → Lt k x y → ⊥
-lt-irrefl k x y e h = omega (arith, h .less, e (h .place) (h .within))
-
-pub lt-trans : (k : ℕ) (x y z : List ℕ) → Lt k x y → Lt k y z → Lt k x z
-lt-trans k x y z a b =
-    elim (decLt (a .place) (b .place)) [
-      | yes p ↦ record {
-        place = a .place;
-        within = a .within;
-        same = λ j l. a .same j l ∙ b .same j (omega arith);
-        less = omega (arith, a .less, b .same (a .place) p);
-      }
-      | no p ↦ record {
-        place = b .place;
-        within = b .within;
-        same = λ j l. a .same j (omega arith) ∙ b .same j l;
-        less = elim (decLt (b .place) (a .place)) [
-          | yes q ↦ omega (arith, b .less, a .same (b .place) q)
-          | no q ↦
-              let e : a .place ≡ b .place = omega arith in
-              let f : getD x (b .place) 0 < getD y (b .place) 0 = subst (λ (i : ℕ). getD x i 0 < getD y i 0) e (a .less) in
-              omega (arith, b .less)
-        ];
-      }
-    ]
-
-pub lt-agree : (k : ℕ) (x y z : List ℕ) → Lt k x y → Agree k y z → Lt k x z
-lt-agree k x y z a e = record {
-  place = a .place;
-  within = a .within;
-  same = λ j l. a .same j l ∙ e j (omega (arith, a .within));
-  less = omega (arith, a .less, e (a .place) (a .within));
-}
-
-pub agree-lt : (k : ℕ) (x y z : List ℕ) → Agree k x y → Lt k y z → Lt k x z
-agree-lt k x y z e a = record {
-  place = a .place;
-  within = a .within;
-  same = λ j l. e j (omega (arith, a .within)) ∙ a .same j l;
-  less = omega (arith, a .less, e (a .place) (a .within));
-}
-
-pub le-antisym : (k : ℕ) (x y : List ℕ) → Le k x y → Le k y x → Agree k x y
-le-antisym k x y (inr a) q = a
-le-antisym k x y (inl a) (inr b) = absurd (lt-irrefl k x y (λ j l. sym (b j l)) a)
-le-antisym k x y (inl a) (inl b) = absurd (lt-irrefl k x x (λ j l. refl) (lt-trans k x y x a b))
-
-pub lt-le : (k : ℕ) (x y z : List ℕ) → Lt k x y → Le k y z → Lt k x z
-lt-le k x y z a (inl b) = lt-trans k x y z a b
-lt-le k x y z a (inr b) = lt-agree k x y z a b
-
--- ---- lists of tuples
 -- each is after the one before, the first after m
 abbrev pub Rising : ℕ → List ℕ → List (List ℕ) → Type 0
 Rising k m [] = Unit {0}
