@@ -4,3 +4,4 @@ pub mod Loop
 pub mod Lay
 pub mod Signed
 pub mod Ring
+pub mod Runs
