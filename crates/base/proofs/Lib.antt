@@ -5,3 +5,4 @@ pub mod Lay
 pub mod Signed
 pub mod Ring
 pub mod Runs
+pub mod Members

@@ -1,0 +1,9 @@
+pub mod Order
+pub mod Portions
+pub mod Loop
+pub mod Tuples
+pub mod Search
+pub mod Turns
+pub mod Calls
+pub mod Filter
+pub mod Least
