@@ -170,7 +170,7 @@ rising-of : (k : ℕ) (m : List ℕ) (ts : List (List ℕ)) → All (Lt k m) ts 
 rising-of k m [] a s = tt
 rising-of k m (t ∷ ts) a s = (a .0, rising-of k t ts (s .0) (s .1))
 
-module _ (k n : ℕ) (leaf : List ℕ → Bool) (ok : List ℕ → ℕ → ℕ → Bool) (law : Laws k n leaf ok) (m : List ℕ) (first : (s : List ℕ) → leaf s ≡ true → Lt k m s) where
+module _ (k n : ℕ) (leaf : List ℕ → Bool) (law : Laws k n leaf) (m : List ℕ) (first : (s : List ℕ) → leaf s ≡ true → Lt k m s) where
   -- the filter of all tuples in order is the sorted list of all that pass
   pub filter-full : Full k leaf m (keep leaf (tuples n k))
   filter-full = record {

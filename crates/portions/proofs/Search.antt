@@ -10,7 +10,7 @@ use borrow.Author.Count.{below-more}
 use native.Mathlib.Decide.{decLt, decLe, ℕ-discrete}
 use lib.ListN.{length, getD, set, length-set}
 use lib.Seq.{getD-set-same, getD-set-other}
-use Rattle.portions.specs.Tuples.{Agree, Lt, Le, LeastAfter, Sought}
+use Rattle.portions.specs.Tuples.{Agree, Lt, Le, LeastAfter, Skips}
 
 -- nothing lies from lo up to c + 1 that passes, where nothing does up to c, nor c
 pub missed-more : (P : ℕ → Type 0) (lo c : ℕ) → ((x : ℕ) → lo ≤ x → x < c → P x → ⊥) → (P c → ⊥) → (x : ℕ) → lo ≤ x → x < c + 1 → P x → ⊥
@@ -47,15 +47,14 @@ pub record Open (k : ℕ) (leaf : List ℕ → Bool) (m t : List ℕ) (d lo : �
   pub past : Past m t d lo
   pub ahead : (s : List ℕ) → leaf s ≡ true → Lt k m s → Ahead t d lo s
 
--- what the search is told of the tests: of a tuple that passes `leaf`, each entry is below n and passes at its level; and `leaf` reads the first k entries alone
-pub record Laws (k n : ℕ) (leaf : List ℕ → Bool) (ok : List ℕ → ℕ → ℕ → Bool) : Type 0 where
+-- what the search is told of the test: of a tuple that passes, each entry is below n; and it reads the first k entries alone
+pub record Laws (k n : ℕ) (leaf : List ℕ → Bool) : Type 0 where
   pub small : (s : List ℕ) (d : ℕ) → leaf s ≡ true → d < k → getD s d 0 < n
-  pub passes : (s t : List ℕ) (d : ℕ) → leaf s ≡ true → d < k → Agree d t s → ok t d (getD s d 0) ≡ true
   pub reads : (s t : List ℕ) → Agree k s t → leaf s ≡ leaf t
 
-module _ {k n : ℕ} {leaf : List ℕ → Bool} {ok : List ℕ → ℕ → ℕ → Bool} (law : Laws k n leaf ok) {m : List ℕ} where
-  -- the search begins at a level at which the mark does not pass, or at the last
-  pub begin : {d : ℕ} → d < k → k ≤ length m → (d + 1 ≡ k) ⊎ (ok m d (getD m d 0) ≡ false) → Open k leaf m m d (getD m d 0 + 1)
+module _ {k n : ℕ} {leaf : List ℕ → Bool} (law : Laws k n leaf) {m : List ℕ} where
+  -- the search begins at a level at which no tuple that passes goes on with the mark's entry, or at the last
+  pub begin : {d : ℕ} → d < k → k ≤ length m → (d + 1 ≡ k) ⊎ ((s : List ℕ) → leaf s ≡ true → Agree (d + 1) m s → ⊥) → Open k leaf m m d (getD m d 0 + 1)
   begin {d} h l w = record {
     inside = h;
     long = l;
@@ -64,18 +63,15 @@ module _ {k n : ℕ} {leaf : List ℕ → Bool} {ok : List ℕ → ℕ → ℕ �
       | inl x ↦ inl x
       | inr x ↦ elim x [
         | inl y ↦ inr (y .0, omega (arith, y .1))
-        | inr y ↦ ⊎-elim
-            (λ (e : d + 1 ≡ k). absurd (let z : ⊥ = omega (arith, y .1) in z))
-            (λ e. absurd (true≢false (sym (law .passes s m d p h (λ j b. y .0 j (omega arith))) ∙ ap (ok m d) (sym (y .0 d (omega arith))) ∙ e)))
-            w
+        | inr y ↦ ⊎-elim (λ (e : d + 1 ≡ k). absurd (let z : ⊥ = omega (arith, y .1) in z)) (λ f. absurd (f s p (y .0))) w
       ]
     ];
   }
 
-  module _ {t : List ℕ} {d lo c : ℕ} (o : Open k leaf m t d lo) (s : Sought (ok t d) n lo c) where
+  module _ {t : List ℕ} {d lo c : ℕ} (o : Open k leaf m t d lo) (s : Skips leaf t d n lo c) where
     -- nothing that passes lies between lo and c at d
     missed : (x : List ℕ) → leaf x ≡ true → Agree d t x → lo ≤ getD x d 0 → getD x d 0 < c → ⊥
-    missed x p a l b = s .miss (getD x d 0) l b (law .small x d p (o .inside)) (law .passes x t d p (o .inside) a)
+    missed x p a l b = s .miss x p a l b
 
     exact : (x : List ℕ) → leaf x ≡ true → Agree d t x → lo ≤ getD x d 0 → (c < getD x d 0 → ⊥) → c ≡ getD x d 0
     exact x p a l b = elim (decLt (getD x d 0) c) [ yes g ↦ absurd (missed x p a l g) | no g ↦ omega arith ]
@@ -97,7 +93,7 @@ module _ {k n : ℕ} {leaf : List ℕ → Bool} {ok : List ℕ → ℕ → ℕ �
             place = d;
             within = omega arith;
             same = λ j l. w .0 j l ∙ sym (below t d c j l);
-            less = omega (arith, w .1, there, s .low);
+            less = omega (arith, w .1, there, s .low h);
           })
           (o .past)
 
