@@ -1,2 +1,4 @@
 pub mod Grow
 pub mod OneKind
+pub mod Full
+pub mod Next

@@ -2,8 +2,9 @@
 -- Assumes nothing.
 use Prim.Native.Nat.{ℕ, zero, suc, _+_, _-_, _<_, _≤_}
 use mathlib.Core.Path.{_≡_, refl, sym, _∙_, ap, ap₂, subst}
+use mathlib.Core.Logic.{⊎-elim}
 use mathlib.Core.Bool.{Bool, true, false, _&&_}
-use mathlib.Core.List.{List, [], _∷_, map, List·Memᴰ}
+use mathlib.Core.List.{List, [], _∷_, map, List·Memᴰ, List·Memᴰ·cases-cons, List·Memᴰ·eq-of-singleton}
 use lib.Dec.{eqb, ltb}
 use lib.ListN.{length, getD, replicate, length-map}
 use native.Mathlib.Omega.{arith}
@@ -13,7 +14,7 @@ use Rattle.base.proofs.Lists.{both-left, both-right}
 use Rattle.base.proofs.Loop.{length-up}
 use Rattle.base.proofs.Members.{keep-at, keep-has, map-at, map-has}
 use Rattle.space.specs.Mesh.{Mesh}
-use Rattle.templates.specs.Tables.{Template, hexahedron, prism, pyramid, templateOf, at}
+use Rattle.templates.specs.Tables.{Template, hexahedron, prism, pyramid, templates, templateOf, at}
 use Rattle.templates.specs.Least.{isLeast, risesAt, rises as risesPair}
 use Rattle.templates.proofs.Tests.{both, covers, at-all}
 use Rattle.templates.proofs.Turns.{cornerTests, corners-all, turned-distinct}
@@ -64,6 +65,12 @@ flat-prism = record { keyed = λ s. refl; ordered = λ s. refl; placed = refl; s
 pub flat-pyramid : Flat pyramid
 unfolding key cornerTests covers isLeast risesAt risesPair
 flat-pyramid = record { keyed = λ s. refl; ordered = λ s. refl; placed = refl; sized = refl; framed = λ s. refl; undone = λ s. refl; closed = λ s. refl; arranged = refl; earlier = refl; least = λ s. refl; first = λ s e. ltb-true _ _ (both-left _ _ e); several = omega arith; few = omega arith; known = refl; low = omega arith; high = omega arith }
+
+pub flat-of : {t : Template} → List·Memᴰ t templates → Flat t
+flat-of h =
+    ⊎-elim (λ q. subst Flat (sym q) flat-hexahedron)
+    (λ g. ⊎-elim (λ q. subst Flat (sym q) flat-prism) (λ f. subst Flat (sym (List·Memᴰ·eq-of-singleton f)) flat-pyramid) (List·Memᴰ·cases-cons g))
+    (List·Memᴰ·cases-cons h)
 
 -- a cell is a tuple of distinct vertices of the mesh
 cell-tuple : (m : Mesh) (t : Template) (c : List ℕ) → isCell m t c ≡ true → (all (λ v. ltb v (length (m .points))) c ≡ true) × (distinct c ≡ true)
