@@ -10,7 +10,7 @@ use native.Mathlib.Omega.{arith}
 use native.Mathlib.Decide.{decLt}
 use Rattle.base.specs.Lists.{from, upTo}
 use Rattle.portions.specs.Portions.{before}
-use Rattle.portions.specs.Tuples.{Agree, Lt, Le, front}
+use Rattle.portions.specs.Tuples.{Agree, Lt, Le, LeastAfter, front}
 use Rattle.portions.proofs.Order.{before-less, before-same, before-cases}
 
 -- ── the order is an order ──
@@ -117,3 +117,12 @@ module _ (s t : List ℕ) where
 
   pub agree-at : (k : ℕ) → Agree k s t → front k s ≡ front k t
   agree-at k f = agree-from k 0 (λ j h. f j (omega arith))
+
+-- a search for what passes one test is a search for what passes another that is the same at every tuple
+pub least-same : {k : ℕ} {p q : List ℕ → Bool} {v : List ℕ} {found : Bool} {r : List ℕ} → ((s : List ℕ) → p s ≡ q s) → LeastAfter k p v found r → LeastAfter k q v found r
+least-same {r = r} e a = record {
+  holds = λ f. sym (e r) ∙ a .holds f;
+  after = a .after;
+  least = λ f s h. a .least f s (e s ∙ h);
+  none = λ f s h. a .none f s (e s ∙ h);
+}

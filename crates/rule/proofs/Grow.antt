@@ -16,6 +16,7 @@ use Rattle.templates.specs.Tables.{Place, at}
 use Rattle.templates.proofs.Tests.{both, isIn-at, at-isIn, distinct-at}
 use Rattle.cells.specs.Full.{allowed, grow}
 use Rattle.portions.specs.Portions.{before, rises}
+use Rattle.rule.specs.Rule.{goesOn}
 use Rattle.portions.proofs.Order.{before-less, before-same, keep-rises, rises-spread, from-rises}
 
 -- ── candidates rise ──
@@ -131,3 +132,27 @@ module _ (n : ℕ) where
           (ap (λ x. getD x k 0) is ∙ getD-left s (r .0 ∷ g .0) k (ltb-true k (length s) (all-at (λ k. ltb k (length s)) (p .below) (both-left _ _ o) h)))
           (ap (λ x. getD x (length s) 0) is ∙ getD-here s (r .0) (g .0))
           ∙ all-at (λ k. ltb (getD s k 0) (r .0)) (p .below) (both-right (not (isIn (r .0) s)) _ (keep-at (allowed p s) (upTo n) (r .1) .1)) h
+
+-- ── place by place ──
+
+module _ (n : ℕ) where
+  pub goes-has : (ps : List Place) (s u : List ℕ) → goesOn n ps s u ≡ true → List·Memᴰ (s ++ u) (grow allowed n ps s)
+  unfolding goesOn grow
+  goes-has [] s [] e = List·Memᴰ·head (append-nil s)
+  goes-has [] s (v ∷ u) e = absurd (true≢false (sym e))
+  goes-has (p ∷ ps) s [] e = absurd (true≢false (sym e))
+  goes-has (p ∷ ps) s (v ∷ u) e =
+      let a = both-left (ltb v n) _ e in
+      let b = both-right (ltb v n) _ e in
+      spread-has (λ v. grow allowed n ps (s ++ (v ∷ []))) (keep (allowed p s) (upTo n))
+      (keep-has (allowed p s) (upTo n) (from-has 0 n v (omega arith) (omega (arith, ltb-true v n a))) (both-left (allowed p s v) _ b))
+      (subst (λ l. List·Memᴰ l (grow allowed n ps (s ++ (v ∷ [])))) (append-assoc s (v ∷ []) u) (goes-has ps (s ++ (v ∷ [])) u (both-right (allowed p s v) _ b)))
+
+  pub has-goes : (ps : List Place) (s : List ℕ) {t : List ℕ} → List·Memᴰ t (grow allowed n ps s) → (u : List ℕ) × (t ≡ s ++ u) × (goesOn n ps s u ≡ true)
+  unfolding goesOn grow
+  has-goes [] s h = ([], List·Memᴰ·eq-of-singleton h ∙ sym (append-nil s), refl)
+  has-goes (p ∷ ps) s h =
+      let r = spread-at (λ v. grow allowed n ps (s ++ (v ∷ []))) (keep (allowed p s) (upTo n)) h in
+      let k = keep-at (allowed p s) (upTo n) (r .1) in
+      let g = has-goes ps (s ++ (r .0 ∷ [])) (r .2) in
+      (r .0 ∷ g .0, g .1 ∙ append-assoc s (r .0 ∷ []) (g .0), rw (lt-ltb (r .0) n (omega (arith, from-at 0 n (k .0) .1)), k .1, g .2))

@@ -4,19 +4,19 @@ use Prim.Native.Nat.{ℕ, zero, suc, _+_, _-_, _<_, _≤_}
 use mathlib.Core.Path.{_≡_, refl, sym, _∙_, ap, ap₂, subst}
 use mathlib.Core.Logic.{⊎-elim}
 use mathlib.Core.Bool.{Bool, true, false, _&&_}
-use mathlib.Core.List.{List, [], _∷_, map, List·Memᴰ, List·Memᴰ·cases-cons, List·Memᴰ·eq-of-singleton}
+use mathlib.Core.List.{List, [], _∷_, map, List·Memᴰ, List·Memᴰ·head, List·Memᴰ·tail, List·Memᴰ·cases-cons, List·Memᴰ·eq-of-singleton}
 use lib.Dec.{eqb, ltb}
 use lib.ListN.{length, getD, replicate, length-map}
 use native.Mathlib.Omega.{arith}
 use borrow.Author.Tests.{ltb-true, eqb-true}
 use Rattle.base.specs.Lists.{all, keep, upTo, pad, every, distinct}
-use Rattle.base.proofs.Lists.{both-left, both-right}
-use Rattle.base.proofs.Loop.{length-up}
+use Rattle.base.proofs.Lists.{both-left, both-right, all-at}
+use Rattle.base.proofs.Loop.{length-up, getD-up}
 use Rattle.base.proofs.Members.{keep-at, keep-has, map-at, map-has}
 use Rattle.space.specs.Mesh.{Mesh}
 use Rattle.templates.specs.Tables.{Template, hexahedron, prism, pyramid, templates, templateOf, at}
 use Rattle.templates.specs.Least.{isLeast, risesAt, rises as risesPair}
-use Rattle.templates.proofs.Tests.{both, covers, at-all}
+use Rattle.templates.proofs.Tests.{agree, both, covers, at-all}
 use Rattle.templates.proofs.Turns.{cornerTests, corners-all, turned-distinct}
 use Rattle.cells.specs.Cells.{isCell, isTuple, hasEdges, hasFaces, isSound, isFilled, isOnePart, numbersOf}
 use Rattle.cells.specs.Full.{Cell, cell, allowed, grow, universe, cellsOf}
@@ -24,9 +24,10 @@ use Rattle.portions.specs.Portions.{before, rises, isAfter}
 use Rattle.portions.specs.Tuples.{Agree, Lt}
 use Rattle.portions.specs.Steps.{Kind}
 use Rattle.portions.proofs.Order.{before-same, keep-rises, rises-so, rises-map}
+use Rattle.portions.proofs.Search.{Laws}
 use Rattle.portions.proofs.Tuples.{lt-of, of-lt, agree-at}
-use Rattle.rule.specs.Rule.{key, tetRule, isLeaf, cellAt}
-use Rattle.rule.proofs.Grow.{grow-shape, grow-rises, grow-has, grow-less, pairsFrom, inOrder, lessAt}
+use Rattle.rule.specs.Rule.{key, tetRule, isLeaf, goesOn, cellAt}
+use Rattle.rule.proofs.Grow.{grow-shape, grow-rises, grow-has, grow-less, goes-has, has-goes, pairsFrom, inOrder, lessAt}
 
 -- the order of the list
 abbrev pub upward : Cell → Cell → Bool
@@ -132,27 +133,23 @@ module _ (m : Mesh) (t : Template) (flat : Flat t) where
 
   -- ── the tuples that pass ──
 
+  -- of a tuple that passes, the entries that count are distinct vertices
+  leaf-tuple : (s : List ℕ) → isLeaf m t s ≡ true → (all (λ v. ltb v (length (m .points))) (front s) ≡ true) × (distinct (front s) ≡ true)
+  unfolding isLeaf front
+  leaf-tuple s e =
+      let c = at s (t .places) in
+      let long : length c ≡ t .corners = length-map (t .places) (λ k. getD s k 0) ∙ flat .sized in
+      let tuple = cell-tuple m t c (both-right (isLeast t c) (isCell m t c) e) in (
+        ap (all (λ v. ltb v (length (m .points)))) (sym (flat .undone s)) ∙ corners-all t (t .order) c (flat .arranged) long (λ v. ltb v (length (m .points))) ∙ tuple .0,
+        ap distinct (sym (flat .undone s)) ∙ turned-distinct t (t .order) c (flat .arranged) long ∙ tuple .1,
+      )
+
   -- a cell in least form is a candidate
   leaf-in : (s : List ℕ) → isLeaf m t s ≡ true → List·Memᴰ (front s) (candidates m t)
   unfolding isLeaf candidates front
   leaf-in s e =
-      grow-has (length (m .points)) (t .search) [] w (length-up (λ k. getD s k 0) (t .corners) ∙ sym (flat .placed))
-      (ap (all (λ v. ltb v (length (m .points)))) (sym (flat .undone s)) ∙ corners-all t (t .order) c (flat .arranged) long (λ v. ltb v (length (m .points))) ∙ tuple .0)
-      (ap distinct (sym (flat .undone s)) ∙ turned-distinct t (t .order) c (flat .arranged) long ∙ tuple .1)
-      (flat .earlier)
-      (sym (flat .least s) ∙ both-left _ _ e)
-    where
-      c : List ℕ
-      c = at s (t .places)
-
-      w : List ℕ
-      w = at s (upTo (t .corners))
-
-      tuple : (all (λ v. ltb v (length (m .points))) c ≡ true) × (distinct c ≡ true)
-      tuple = cell-tuple m t c (both-right (isLeast t c) (isCell m t c) e)
-
-      long : length c ≡ t .corners
-      long = length-map (t .places) (λ k. getD s k 0) ∙ flat .sized
+      grow-has (length (m .points)) (t .search) [] (at s (upTo (t .corners))) (length-up (λ k. getD s k 0) (t .corners) ∙ sym (flat .placed))
+      (leaf-tuple s e .0) (leaf-tuple s e .1) (flat .earlier) (sym (flat .least s) ∙ both-left _ _ e)
 
   leaf-cell : (s : List ℕ) → isLeaf m t s ≡ true → isCell m t (at s (t .places)) ≡ true
   unfolding isLeaf
@@ -196,3 +193,31 @@ module _ (m : Mesh) (t : Template) (flat : Flat t) where
     same = λ s u a. sym (front-cell s) ∙ ap (cellAt m t) (agree-at s u (t .corners) a) ∙ front-cell u;
     rise = λ s u e f l. ap₂ before (leaf-key s e) (leaf-key u f) ∙ before-same (65535 - t .kind) (front s) (front u) ∙ of-lt s u (t .corners) l;
   }
+
+  -- the test reads the entries that count
+  pub leaf-reads : (s u : List ℕ) → Agree (t .corners) s u → isLeaf m t s ≡ isLeaf m t u
+  unfolding isLeaf
+  leaf-reads s u a = ap (λ c. isLeast t c && isCell m t c) (sym (flat .framed s) ∙ ap (λ w. at w (t .places)) (agree-at s u (t .corners) a) ∙ flat .framed u)
+
+  -- what a search is told of the test
+  pub leaf-laws : Laws (t .corners) (length (m .points)) (isLeaf m t)
+  unfolding front
+  leaf-laws = record {
+    small = λ s d e h. ltb-true _ _ (sym (ap (λ v. ltb v (length (m .points))) (getD-up (λ k. getD s k 0) 0 (t .corners) d h)) ∙ all-at (λ v. ltb v (length (m .points))) (front s) (leaf-tuple s e .0) (getD-in (front s) d (omega (arith, length-up (λ k. getD s k 0) (t .corners)))));
+    reads = leaf-reads;
+  }
+    where
+      getD-in : (xs : List ℕ) (i : ℕ) → i < length xs → List·Memᴰ (getD xs i 0) xs
+      getD-in [] i h = absurd (let z : ⊥ = omega arith in z)
+      getD-in (x ∷ xs) zero h = List·Memᴰ·head refl
+      getD-in (x ∷ xs) (suc i) h = List·Memᴰ·tail (getD-in xs i (omega arith))
+
+  -- the same test, place by place
+  pub leaf-goes : (s : List ℕ) → isLeaf m t s ≡ (goesOn (length (m .points)) (t .search) [] (at s (upTo (t .corners))) && isCell m t (at s (t .places)))
+  unfolding candidates front isLeaf
+  leaf-goes s =
+      agree _ _
+      (λ e. let g = has-goes (length (m .points)) (t .search) [] (leaf-in s e) in both _ _ (ap (goesOn (length (m .points)) (t .search) []) (g .1) ∙ g .2) (leaf-cell s e))
+      (λ e.
+      let h = goes-has (length (m .points)) (t .search) [] (at s (upTo (t .corners))) (both-left _ (isCell m t (at s (t .places))) e) in
+      ap (λ c. isLeast t c && isCell m t c) (sym (flat .framed s)) ∙ leaf-of (front s) h (ap (isCell m t) (flat .framed s) ∙ both-right (goesOn (length (m .points)) (t .search) [] (at s (upTo (t .corners)))) _ e))

@@ -8,10 +8,10 @@ use lib.Dec.{eqb, ltb, leb}
 use lib.ListN.{length, getD, take, drop, replicate}
 use Rattle.base.specs.Lists.{pad}
 use Rattle.space.specs.Mesh.{Mesh}
-use Rattle.templates.specs.Tables.{Template, templateOf, at}
+use Rattle.templates.specs.Tables.{Place, Template, templateOf, at}
 use Rattle.templates.specs.Least.{isLeast}
 use Rattle.cells.specs.Cells.{isCell, numbersOf}
-use Rattle.cells.specs.Full.{Cell, cell}
+use Rattle.cells.specs.Full.{Cell, cell, allowed}
 use Rattle.portions.specs.Portions.{before, Rule}
 use Rattle.portions.specs.Tuples.{Agree, LeastAfter}
 
@@ -57,6 +57,13 @@ tetRule = record {
 -- the tuple is in least form, and it is a cell
 unfoldable pub isLeaf : Mesh → Template → List ℕ → Bool
 isLeaf m t s = isLeast t (at s (t .places)) && isCell m t (at s (t .places))
+
+-- the same place by place: the vertices u come after s, one at each place, and each is below n and may come there
+unfoldable pub goesOn : ℕ → List Place → List ℕ → List ℕ → Bool
+goesOn n [] s [] = true
+goesOn n [] s (v ∷ u) = false
+goesOn n (p ∷ ps) s [] = false
+goesOn n (p ∷ ps) s (v ∷ u) = let r = goesOn n ps (s ++ (v ∷ [])) u in ltb v n && (allowed p s v && r)
 
 -- the cell that a tuple makes
 unfoldable pub cellAt : Mesh → Template → List ℕ → Cell
