@@ -2,3 +2,4 @@ pub mod Grow
 pub mod OneKind
 pub mod Full
 pub mod Next
+pub mod Rows
