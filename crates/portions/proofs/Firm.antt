@@ -1,22 +1,22 @@
 -- How firm the promise of a portion is: it leaves one outcome, a record tells its cell, a mark cuts the list in two, and what does not keep it.
 -- Assumes nothing.
-use Prim.Native.Nat.{ℕ, zero, suc, _+_, _*_, _/_, _<_, _≤_}
+use Prim.Native.Nat.{ℕ, _+_, _*_, _/_, _<_, _≤_}
 use mathlib.Core.Path.{_≡_, refl, sym, _∙_, ap, ap₂, subst}
 use mathlib.Core.Bool.{Bool, true, false, not, cond, true≢false}
 use mathlib.Core.List.{List, [], _∷_, _++_, List·Memᴰ, List·Memᴰ·head, List·Memᴰ·tail}
-use lib.Dec.{leb}
-use lib.ListN.{length, take, drop, replicate, length-take, length-replicate, length-append}
+use lib.ListN.{length, take, replicate, length-take, length-replicate, length-append}
 use lib.Seq.{take-at, drop-at}
 use native.Mathlib.Omega.{arith}
+use native.Mathlib.Decide.{decLt}
 use native.Mathlib.Nat.{le-div-iff-mul-le, mul-div-cancel, one-mul}
-use borrow.Author.Tests.{le-ltb, lt-leb, le-leb}
 use Rattle.base.specs.Lists.{all, keep, spread}
 use Rattle.base.proofs.Lists.{both-left, both-right, all-at}
-use Rattle.base.proofs.Members.{keep-at, keep-all, all-left}
-use Rattle.portions.specs.Portions.{before, rises, Rule, Answer, refused, given, reply, isAfter, after, records, portion, portionOf, lastMark, Lawful, Telling, readBack}
-use Rattle.portions.specs.Run.{Outcome, Call, read, Calls, Promise}
+use Rattle.base.proofs.Members.{keep-at, keep-all}
+use Rattle.portions.specs.Portions.{before, rises, Rule, Answer, refused, given, isAfter, after, records, Lawful, Telling, readBack}
+use Rattle.portions.specs.Run.{Outcome, Call, read, Calls}
 use Rattle.portions.proofs.Order.{before-trans}
 use Rattle.portions.proofs.Portions.{sized, cellsIn, call}
+use Rattle.portions.proofs.Loop.{portion-short}
 use Rattle.portions.proofs.Run.{calls, ends, answers}
 
 -- ── one outcome ──
@@ -96,6 +96,16 @@ module _ {A : Type 0} (rule : Rule A) (full : List A) (law : Lawful rule full) w
         let p = calls rule full law r in
         ap (readBack rule (tell .cellOf) (length (after rule full k))) (p .complete refl)
         ∙ read-back (after rule full k) (λ c h. keep-at (isAfter rule k) full h .0) (p .fit refl)
+
+  -- an answer that is no refusal is one of a call with room for a record
+  pub outcome-call : {k room : List ℕ} {n : ℕ} {none : Bool} {k′ left : List ℕ} → Outcome rule full k room (given n none k′) left → Call rule full k room n none k′ left
+  outcome-call {k} {room} {n} {none} {k′} o =
+      elim (decLt (length room) (rule .size)) [
+        | yes h ↦
+            let e : given n none k′ ≡ refused 11 = o .answered ∙ ap (λ p. p .answer) (portion-short rule full law k (length room) h) in
+            absurd (true≢false (let v : true ≡ false = cc in v))
+        | no h ↦ record { wide = omega arith; outcome = o }
+      ]
 
   -- ── what does not keep the promise ──
 

@@ -17,10 +17,11 @@ use Rattle.base.proofs.Members.{keep-all, keep-none, keep-same, spread-at}
 use Rattle.space.specs.Mesh.{Mesh}
 use Rattle.templates.specs.Tables.{Template, hexahedron, prism, pyramid, templates, templateOf, at}
 use Rattle.cells.specs.Full.{Cell, cell, cellsOf, fullList}
-use Rattle.portions.specs.Portions.{before, rises, isAfter, after, Lawful, Telling}
-use Rattle.portions.specs.Run.{Demand3}
+use Rattle.portions.specs.Portions.{before, rises, isAfter, after, Lawful, Telling, readBack}
+use Rattle.portions.specs.Run.{Calls, Demand3}
 use Rattle.portions.proofs.Order.{before-less, before-cases, before-total, rises-append}
 use Rattle.portions.proofs.Run.{demand3}
+use Rattle.portions.proofs.Firm.{calls-tell}
 use Rattle.rule.specs.Rule.{key, entries, cellOf, tetRule, comesAfter}
 use Rattle.rule.proofs.OneKind.{upward, Flat, flat-hexahedron, flat-prism, flat-pyramid, flat-of, cells-rise, kind-at, corners-at}
 
@@ -32,8 +33,8 @@ kinds-fall c d a b e f h l = before-less (65535 - c .kind) (65535 - d .kind) _ _
 
 -- of any cell of the list
 pub record Sane (c : Cell) : Type 0 where
-  pub low : 0 < c .kind
-  pub high : c .kind < 65535
+  pub low : 4 < c .kind
+  pub high : c .kind < 9
   pub sized : length (c .corners) ≡ templateOf (c .kind) .corners
   pub few : length (c .corners) ≤ 8
 
@@ -44,7 +45,7 @@ module _ (m : Mesh) where
 
   -- the kinds fall
   pub fall : (t u : Template) (f : Flat t) (g : Flat u) → u .kind < t .kind → (x y : Cell) → List·Memᴰ x (cellsOf m t) → List·Memᴰ y (cellsOf m u) → upward x y ≡ true
-  fall t u f g l x y h i = kinds-fall x y (t .kind) (u .kind) (kind-at m t f h) (kind-at m u g i) l (f .high)
+  fall t u f g l x y h i = kinds-fall x y (t .kind) (u .kind) (kind-at m t f h) (kind-at m u g i) l (omega (arith, f .high))
 
   -- hexahedra come first
   pub hexahedra-first : (x y : Cell) → List·Memᴰ x (cellsOf m hexahedron) → List·Memᴰ y (cellsOf m prism ++ cellsOf m pyramid) → upward x y ≡ true
@@ -72,37 +73,50 @@ module _ (m : Mesh) where
   pad-length : (k v : ℕ) (xs : List ℕ) → length xs ≤ k → length (pad k v xs) ≡ k
   pad-length k v xs h = length-append xs (replicate (k - length xs) v) ∙ omega (arith, length-replicate (k - length xs) v)
 
+  -- a mark of a kind above 8, as the start mark, has every cell after it, and one of a kind below 5, as nine zeros, none
+  pub after-above : (k : ℕ) (vs : List ℕ) → 8 < k → after tetRule (fullList m) (k ∷ vs) ≡ fullList m
+  unfolding after isAfter key
+  after-above k vs l = keep-all (isAfter tetRule (k ∷ vs)) (fullList m) (all-from (isAfter tetRule (k ∷ vs)) (fullList m) (λ c h. before-less (65535 - k) (65535 - c .kind) _ _ (omega (arith, full-sane h .high))))
+
+  pub after-below : (k : ℕ) (vs : List ℕ) → k < 5 → after tetRule (fullList m) (k ∷ vs) ≡ []
+  unfolding after isAfter key
+  after-below k vs l = keep-none (isAfter tetRule (k ∷ vs)) (fullList m) (λ c h. none c (full-sane h) _ refl)
+    where
+      none : (c : Cell) → Sane c → (b : Bool) → isAfter tetRule (k ∷ vs) c ≡ b → b ≡ false
+      none c s true e = ⊎-elim (λ q. absurd (let z : ⊥ = omega (arith, s .low, s .high) in z)) (λ q. absurd (let z : ⊥ = omega (arith, s .low, s .high, q .0) in z)) (before-cases (65535 - k) (65535 - c .kind) _ _ e)
+      none c s false e = refl
+
   pub lawful : Lawful tetRule (fullList m)
-  unfolding after isAfter key entries
+  unfolding entries
   lawful = record {
     some = omega arith;
     sized = λ c h f. length-append (c .kind ∷ pad 8 65535 (c .corners)) _ ∙ ap₂ (λ a b. suc a + suc b) (pad-length 8 65535 (c .corners) (full-sane h .few)) (pad-length 25 65535 (c .tets) (leb-true _ _ f));
     rising = full-rises;
-    started = keep-all (isAfter tetRule (tetRule .start)) (fullList m) (all-from (isAfter tetRule (tetRule .start)) (fullList m) (λ c h. before-less 0 (65535 - c .kind) _ _ (omega (arith, full-sane h .high))));
-    ended = keep-none (isAfter tetRule (tetRule .end)) (fullList m) (λ c h. ends c (full-sane h) _ refl);
+    started = after-above 65535 (pad 8 0 []) (omega arith);
+    ended = after-below 0 (pad 8 0 []) (omega arith);
   }
-    where
-      ends : (c : Cell) → Sane c → (b : Bool) → isAfter tetRule (tetRule .end) c ≡ b → b ≡ false
-      ends c s true e = ⊎-elim (λ l. absurd (let z : ⊥ = omega arith in z)) (λ l. absurd (let z : ⊥ = omega arith in z)) (before-cases 65535 (65535 - c .kind) _ _ e)
-      ends c s false e = refl
 
   -- a record tells its cell
-  pub telling : Telling tetRule (fullList m)
+  pub tells : (c : Cell) → Sane c → cellOf (entries c) ≡ c
   unfolding entries cellOf
-  telling = record { cellOf = cellOf; tells = λ c h f. told c (full-sane h) }
-    where
-      told : (c : Cell) → Sane c → cellOf (entries c) ≡ c
-      told c s =
-          let front = pad 8 65535 (c .corners) in
-          let back = length (c .tets) ∷ pad 25 65535 (c .tets) in
-          let tail : drop 9 ((c .kind ∷ front) ++ back) ≡ back = drop-at (c .kind ∷ front) back 9 (ap suc (pad-length 8 65535 (c .corners) (s .few))) in
-          ap₂ (λ a b. cell (c .kind) a b)
-          (ap (take (templateOf (c .kind) .corners)) (append-assoc (c .corners) _ back) ∙ take-at (c .corners) _ (templateOf (c .kind) .corners) (s .sized))
-          (ap (λ l. take (getD l 0 0) (drop 1 l)) tail ∙ take-at (c .tets) _ (length (c .tets)) refl)
+  tells c s =
+      let front = pad 8 65535 (c .corners) in
+      let back = length (c .tets) ∷ pad 25 65535 (c .tets) in
+      let tail : drop 9 ((c .kind ∷ front) ++ back) ≡ back = drop-at (c .kind ∷ front) back 9 (ap suc (pad-length 8 65535 (c .corners) (s .few))) in
+      ap₂ (λ a b. cell (c .kind) a b)
+      (ap (take (templateOf (c .kind) .corners)) (append-assoc (c .corners) _ back) ∙ take-at (c .corners) _ (templateOf (c .kind) .corners) (s .sized))
+      (ap (λ l. take (getD l 0 0) (drop 1 l)) tail ∙ take-at (c .tets) _ (length (c .tets)) refl)
+
+  abbrev pub telling : Telling tetRule (fullList m)
+  telling = record { cellOf = cellOf; tells = λ c h f. tells c (full-sane h) }
 
 -- demand 3 holds of the full list
 pub full-demand3 : (m : Mesh) → Demand3 tetRule (fullList m)
 full-demand3 m = demand3 tetRule (fullList m) (lawful m)
+
+-- and what calls gave from the start mark to the end, read back, is the full list
+pub full-told : (m : Mesh) {rooms : List (List ℕ)} {got k′ : List ℕ} → Calls tetRule (fullList m) (tetRule .start) rooms got true k′ → readBack tetRule cellOf (length (fullList m)) got ≡ fullList m
+full-told m {got = got} r = ap (λ l. readBack tetRule cellOf (length l) got) (sym (lawful m .started)) ∙ calls-tell tetRule (fullList m) (lawful m) (telling m) r ∙ lawful m .started
 
 -- ── the order in words ──
 
@@ -140,7 +154,7 @@ after-is k vs c h =
 
 pub full-after : (m : Mesh) (k : ℕ) (vs : List ℕ) → after tetRule (fullList m) (k ∷ vs) ≡ keep (comesAfter k vs) (fullList m)
 unfolding after
-full-after m k vs = keep-same (isAfter tetRule (k ∷ vs)) (comesAfter k vs) (fullList m) (λ c h. after-is k vs c (full-sane m h .high))
+full-after m k vs = keep-same (isAfter tetRule (k ∷ vs)) (comesAfter k vs) (fullList m) (λ c h. after-is k vs c (omega (arith, full-sane m h .high)))
 
 -- numbers beyond the kind's corners do not count
 pub unused : (k : ℕ) (vs ws : List ℕ) → ((i : ℕ) → i < templateOf k .corners → getD vs i 0 ≡ getD ws i 0) → key (k ∷ vs) ≡ key (k ∷ ws)

@@ -1,19 +1,18 @@
 -- The candidates of a kind rise in search order, and they are the tuples of distinct vertices below n that are in least form.
 -- Assumes nothing.
-use Prim.Native.Nat.{ℕ, zero, suc, _+_, _<_, _≤_}
+use Prim.Native.Nat.{ℕ, zero, suc, _+_, _<_}
 use mathlib.Core.Path.{_≡_, refl, sym, _∙_, ap, ap₂, subst}
 use mathlib.Core.Bool.{Bool, true, false, not, _&&_, true≢false}
-use mathlib.Core.List.{List, [], _∷_, _++_, map, append-assoc, append-nil, List·Memᴰ, List·Memᴰ·head, List·Memᴰ·tail, List·Memᴰ·eq-of-singleton}
-use lib.Dec.{eqb, ltb}
-use lib.ListN.{length, getD, take, length-append, length-take}
-use lib.Seq.{take-all}
+use mathlib.Core.List.{List, [], _∷_, _++_, map, append-assoc, append-nil, List·Memᴰ, List·Memᴰ·head, List·Memᴰ·eq-of-singleton}
+use lib.Dec.{ltb}
+use lib.ListN.{length, getD, length-append}
 use native.Mathlib.Omega.{arith}
-use borrow.Author.Tests.{ltb-true, lt-ltb, eqb-true}
-use Rattle.base.specs.Lists.{all, keep, spread, from, upTo, isIn, distinct}
+use borrow.Author.Tests.{ltb-true, lt-ltb}
+use Rattle.base.specs.Lists.{all, keep, upTo, isIn, distinct}
 use Rattle.base.proofs.Lists.{both-left, both-right, all-at, all-from}
 use Rattle.base.proofs.Members.{keep-at, keep-has, all-both, all-left, all-right, spread-at, spread-has, map-at, map-has, from-at, from-has}
-use Rattle.templates.specs.Tables.{Place, at}
-use Rattle.templates.proofs.Tests.{both, isIn-at, at-isIn, distinct-at}
+use Rattle.templates.specs.Tables.{Place}
+use Rattle.templates.proofs.Tests.{both, at-isIn, distinct-at}
 use Rattle.cells.specs.Full.{allowed, grow}
 use Rattle.portions.specs.Portions.{before, rises}
 use Rattle.rule.specs.Rule.{goesOn}

@@ -1,18 +1,18 @@
 -- A search of each kind, by the least tuple after a tuple, finds the next cell of the full list.
 -- Assumes nothing.
 use Prim.Native.Nat.{ℕ, _-_, _<_}
-use mathlib.Core.Path.{_≡_, refl, sym, _∙_, ap, ap₂, subst}
+use mathlib.Core.Path.{_≡_, sym, _∙_, ap, ap₂, subst}
 use mathlib.Core.Logic.{⊎-elim}
 use mathlib.Core.Bool.{Bool, true, false}
-use mathlib.Core.List.{List, [], _∷_, _++_}
+use mathlib.Core.List.{List, _∷_, _++_}
 use lib.ListN.{replicate}
 use native.Mathlib.Omega.{arith}
-use Rattle.base.specs.Lists.{upTo, pad}
+use Rattle.base.specs.Lists.{pad}
 use Rattle.space.specs.Mesh.{Mesh}
 use Rattle.templates.specs.Tables.{Template, hexahedron, prism, pyramid, templateOf, at}
 use Rattle.cells.specs.Full.{Cell, cellsOf, fullList}
 use Rattle.portions.specs.Portions.{before, isAfter}
-use Rattle.portions.specs.Tuples.{Agree, Lt, LeastAfter, front}
+use Rattle.portions.specs.Tuples.{Agree, front}
 use Rattle.portions.specs.Steps.{Next, Alike}
 use Rattle.portions.proofs.Order.{before-less, before-same, before-cases}
 use Rattle.portions.proofs.Tuples.{lt-of, of-lt, agree-at}

@@ -1,14 +1,14 @@
 -- One kind: its cells rise, and they are what the tuples make that pass `isLeaf`, in the order of the tuples.
 -- Assumes nothing.
-use Prim.Native.Nat.{ℕ, zero, suc, _+_, _-_, _<_, _≤_}
+use Prim.Native.Nat.{ℕ, zero, suc, _-_, _<_, _≤_}
 use mathlib.Core.Path.{_≡_, refl, sym, _∙_, ap, ap₂, subst}
 use mathlib.Core.Logic.{⊎-elim}
-use mathlib.Core.Bool.{Bool, true, false, _&&_}
-use mathlib.Core.List.{List, [], _∷_, map, List·Memᴰ, List·Memᴰ·head, List·Memᴰ·tail, List·Memᴰ·cases-cons, List·Memᴰ·eq-of-singleton}
+use mathlib.Core.Bool.{Bool, true, _&&_}
+use mathlib.Core.List.{List, [], _∷_, List·Memᴰ, List·Memᴰ·head, List·Memᴰ·tail, List·Memᴰ·cases-cons, List·Memᴰ·eq-of-singleton}
 use lib.Dec.{eqb, ltb}
 use lib.ListN.{length, getD, replicate, length-map}
 use native.Mathlib.Omega.{arith}
-use borrow.Author.Tests.{ltb-true, eqb-true}
+use borrow.Author.Tests.{ltb-true}
 use Rattle.base.specs.Lists.{all, keep, upTo, pad, every, distinct}
 use Rattle.base.proofs.Lists.{both-left, both-right, all-at}
 use Rattle.base.proofs.Loop.{length-up, getD-up}
@@ -25,7 +25,7 @@ use Rattle.portions.specs.Tuples.{Agree, Lt}
 use Rattle.portions.specs.Steps.{Kind}
 use Rattle.portions.proofs.Order.{before-same, keep-rises, rises-so, rises-map}
 use Rattle.portions.proofs.Search.{Laws}
-use Rattle.portions.proofs.Tuples.{lt-of, of-lt, agree-at}
+use Rattle.portions.proofs.Tuples.{of-lt, agree-at}
 use Rattle.rule.specs.Rule.{key, tetRule, isLeaf, goesOn, cellAt}
 use Rattle.rule.proofs.Grow.{grow-shape, grow-rises, grow-has, grow-less, goes-has, has-goes, pairsFrom, inOrder, lessAt}
 
@@ -52,8 +52,8 @@ pub record Flat (t : Template) : Type 0 where
   pub several : 1 < t .corners
   pub few : t .corners ≤ 8
   pub known : templateOf (t .kind) ≡ t
-  pub low : 0 < t .kind
-  pub high : t .kind < 65535
+  pub low : 4 < t .kind
+  pub high : t .kind < 9
 
 pub flat-hexahedron : Flat hexahedron
 unfolding key cornerTests covers isLeast risesAt risesPair

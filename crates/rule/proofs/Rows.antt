@@ -5,7 +5,7 @@ use mathlib.Core.Path.{_≡_, refl}
 use mathlib.Core.Bool.{true, false}
 use mathlib.Core.List.{List, [], _∷_}
 use lib.ListN.{take, drop}
-use Rattle.base.specs.Lists.{keep, spread, pad}
+use Rattle.base.specs.Lists.{keep, spread}
 use Rattle.cells.specs.Full.{Cell, cell}
 use Rattle.portions.specs.Portions.{before, refused, given, Portion, reply, isAfter, after, records, lastMark, portionOf, portion}
 use Rattle.rule.specs.Rule.{key, entries, tetRule}

@@ -1,13 +1,13 @@
 -- The rule of quadrilaterals keeps to the laws, so demand 3 holds of it too, and a record tells its quadrilateral.
 -- Assumes nothing.
-use Prim.Native.Nat.{ℕ, zero, suc, _+_}
+use Prim.Native.Nat.{ℕ, suc, _+_}
 use mathlib.Core.Path.{_≡_, refl, sym, _∙_, ap, ap₂}
 use mathlib.Core.Logic.{⊎-elim}
 use mathlib.Core.Bool.{Bool, true, false}
 use mathlib.Core.List.{List, [], _∷_, List·Memᴰ}
-use lib.ListN.{length, length-append, getD}
+use lib.ListN.{length, length-append}
 use native.Mathlib.Omega.{arith}
-use Rattle.base.specs.Lists.{keep, upTo}
+use Rattle.base.specs.Lists.{keep}
 use Rattle.base.proofs.Lists.{all-from}
 use Rattle.base.proofs.Loop.{listed}
 use Rattle.base.proofs.Members.{keep-at, keep-all, keep-none, map-at}

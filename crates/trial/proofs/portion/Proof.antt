@@ -1,6 +1,6 @@
 -- The loop's cells so far are those of `Come`, and the room holds their records.
 use Prim.Native.Nat.{ℕ, _-_, _/_, _<_, _≤_}
-use mathlib.Core.Path.{_≡_, sym, ap, _∙_}
+use mathlib.Core.Path.{ap}
 use mathlib.Core.Bool.{not}
 use mathlib.Core.List.{[], _∷_}
 use lib.ListN.{length}
@@ -9,7 +9,7 @@ use borrow.Author.Tests.{not-true, not-false, ne-eqb, eq-eqb}
 use borrow.Author.Needs.{needs}
 use Rattle.portions.specs.Portions.{Lawful}
 use Rattle.portions.specs.Steps.{Come}
-use Rattle.portions.proofs.Loop.{outcome-short, come-start, come-most, come-room, come-step, outcome-none, outcome-full, outcome-long}
+use Rattle.portions.proofs.Loop.{outcome-short, come-start, come-most, come-step, outcome-none, outcome-full, outcome-long}
 use Rattle.trial.specs.Trial.{trialRule, trials}
 use Rattle.trial.proofs.Trial.{lawful}
 use Rattle.trial.proofs.portion.Statement.{statement}
