@@ -15,10 +15,10 @@ ghost use Rattle.filling.specs.Found.{Found, pushed};
 ghost use Rattle.filling.specs.Filled.{sidesIn, once, paired, covers, fills, onePart};
 use cells::corners3;
 use cells::corners4;
-use cells::is_in;
 use space::Tet;
 use space::Vertex;
 use space::tet_has3;
+use templates::is_in;
 
 // How many tetrahedra a cell has, and the numbers of the first 25, rising; 65,535 where unused.
 pub struct Tets {
@@ -34,16 +34,16 @@ fn all_in(labels: &[u16], e: Tet, xs: &[u16]) -> bool
     ensures { λ r. ⌜ r ≡ all (λ v. isIn v (now (xs .entry))) (row4 (now (labels .entry)) (e .0)) ⌝ }
 {
     let at = 4 * (e.0 as usize);
-    if !is_in(Vertex(labels[at]), xs) {
+    if !is_in(labels[at], xs) {
         return false;
     }
-    if !is_in(Vertex(labels[at + 1]), xs) {
+    if !is_in(labels[at + 1], xs) {
         return false;
     }
-    if !is_in(Vertex(labels[at + 2]), xs) {
+    if !is_in(labels[at + 2], xs) {
         return false;
     }
-    is_in(Vertex(labels[at + 3]), xs)
+    is_in(labels[at + 3], xs)
 }
 
 // The tetrahedron is quadrilateral j.

@@ -6,17 +6,14 @@ use borrow.Author.Needs.{needs}
 use Rattle.filling.proofs.all_in.Statement.{statement}
 use Rattle.filling.proofs.all_in.Tie as tie
 
-cast-at : tie.Need-cast-at
-cast-at c = search needs
-
 mul-at : tie.Need-mul-at
 mul-at c = search needs
 
-mul-t5 : tie.Need-mul-t5
-mul-t5 c = search needs
+mul-is-in : tie.Need-mul-is-in
+mul-is-in c = search needs
 
-shared-slice-read-t8 : tie.Need-shared-slice-read-t8
-shared-slice-read-t8 c = search needs
+shared-slice-read-is-in : tie.Need-shared-slice-read-is-in
+shared-slice-read-is-in c = search needs
 
 is-in-requires : tie.Need-is-in-requires
 is-in-requires c κs = search needs
@@ -24,14 +21,14 @@ is-in-requires c κs = search needs
 returns : tie.Need-returns
 returns c = sym (rw (sym (c .before .is-in .ensures) ∙ not-true _ (c .if1 .taken)))
 
-add-t5 : tie.Need-add-t5
-add-t5 c = search needs
+add-is-in : tie.Need-add-is-in
+add-is-in c = search needs
 
-mul-t11 : tie.Need-mul-t11
-mul-t11 c = search needs
+mul-is-in-2 : tie.Need-mul-is-in-2
+mul-is-in-2 c = search needs
 
-shared-slice-read-t8-2 : tie.Need-shared-slice-read-t8-2
-shared-slice-read-t8-2 c = search needs
+shared-slice-read-is-in-2 : tie.Need-shared-slice-read-is-in-2
+shared-slice-read-is-in-2 c = search needs
 
 is-in-requires-2 : tie.Need-is-in-requires-2
 is-in-requires-2 c κs = search needs
@@ -39,14 +36,14 @@ is-in-requires-2 c κs = search needs
 returns-2 : tie.Need-returns-2
 returns-2 c = sym (rw (sym (c .before .before .before .before .is-in .ensures) ∙ not-false _ (c .before .before .before .if1 .left), sym (c .before .is-in2 .ensures) ∙ not-true _ (c .if2 .taken)))
 
-add-t5-2 : tie.Need-add-t5-2
-add-t5-2 c = search needs
+add-is-in-2 : tie.Need-add-is-in-2
+add-is-in-2 c = search needs
 
-mul-t11-2 : tie.Need-mul-t11-2
-mul-t11-2 c = search needs
+mul-is-in-3 : tie.Need-mul-is-in-3
+mul-is-in-3 c = search needs
 
-shared-slice-read-t8-3 : tie.Need-shared-slice-read-t8-3
-shared-slice-read-t8-3 c = search needs
+shared-slice-read-is-in-3 : tie.Need-shared-slice-read-is-in-3
+shared-slice-read-is-in-3 c = search needs
 
 is-in-requires-3 : tie.Need-is-in-requires-3
 is-in-requires-3 c κs = search needs
@@ -55,14 +52,14 @@ returns-3 : tie.Need-returns-3
 returns-3 c =
     sym (rw (sym (c .before .before .before .before .before .before .before .is-in .ensures) ∙ not-false _ (c .before .before .before .before .before .before .if1 .left), sym (c .before .before .before .before .is-in2 .ensures) ∙ not-false _ (c .before .before .before .if2 .left), sym (c .before .is-in3 .ensures) ∙ not-true _ (c .if3 .taken)))
 
-add-t5-3 : tie.Need-add-t5-3
-add-t5-3 c = search needs
+add-is-in-3 : tie.Need-add-is-in-3
+add-is-in-3 c = search needs
 
-mul-t11-3 : tie.Need-mul-t11-3
-mul-t11-3 c = search needs
+mul-is-in-4 : tie.Need-mul-is-in-4
+mul-is-in-4 c = search needs
 
-shared-slice-read-t8-4 : tie.Need-shared-slice-read-t8-4
-shared-slice-read-t8-4 c = search needs
+shared-slice-read-is-in-4 : tie.Need-shared-slice-read-is-in-4
+shared-slice-read-is-in-4 c = search needs
 
 is-in-requires-4 : tie.Need-is-in-requires-4
 is-in-requires-4 c κs = search needs
@@ -76,24 +73,23 @@ pub all-in-spec : {M : Type 1} → statement M
 all-in-spec =
     tie.close
     (tie.spec
-    cast-at
     mul-at
-    mul-t5
-    shared-slice-read-t8
+    mul-is-in
+    shared-slice-read-is-in
     is-in-requires
     returns
-    add-t5
-    mul-t11
-    shared-slice-read-t8-2
+    add-is-in
+    mul-is-in-2
+    shared-slice-read-is-in-2
     is-in-requires-2
     returns-2
-    add-t5-2
-    mul-t11-2
-    shared-slice-read-t8-3
+    add-is-in-2
+    mul-is-in-3
+    shared-slice-read-is-in-3
     is-in-requires-3
     returns-3
-    add-t5-3
-    mul-t11-3
-    shared-slice-read-t8-4
+    add-is-in-3
+    mul-is-in-4
+    shared-slice-read-is-in-4
     is-in-requires-4
     returns-4)
