@@ -6,6 +6,9 @@ use borrow.Author.Needs.{needs}
 use Rattle.filling.proofs.all_in.Statement.{statement}
 use Rattle.filling.proofs.all_in.Tie as tie
 
+cast-at : tie.Need-cast-at
+cast-at c = search needs
+
 mul-at : tie.Need-mul-at
 mul-at c = search needs
 
@@ -73,6 +76,7 @@ pub all-in-spec : {M : Type 1} → statement M
 all-in-spec =
     tie.close
     (tie.spec
+    cast-at
     mul-at
     mul-is-in
     shared-slice-read-is-in
