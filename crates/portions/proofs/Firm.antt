@@ -10,8 +10,8 @@ use native.Mathlib.Omega.{arith}
 use native.Mathlib.Decide.{decLt}
 use native.Mathlib.Nat.{le-div-iff-mul-le, mul-div-cancel, one-mul}
 use Rattle.base.specs.Lists.{all, keep, spread}
-use Rattle.base.proofs.Lists.{both-left, both-right, all-at}
-use Rattle.base.proofs.Members.{keep-at, keep-all}
+use Rattle.base.proofs.Lists.{both-left, both-right, all-at, all-from}
+use Rattle.base.proofs.Members.{keep-at, keep-all, keep-none}
 use Rattle.portions.specs.Portions.{before, rises, Rule, Answer, refused, given, isAfter, after, records, Lawful, Telling, readBack}
 use Rattle.portions.specs.Run.{Outcome, Call, read, Calls}
 use Rattle.portions.proofs.Order.{before-trans}
@@ -42,15 +42,10 @@ module _ {A : Type 0} (p : A → Bool) (b : A → A → Bool) (up : (x y : A) �
   cut-two (x ∷ xs) e = go (p x) refl (cut-two xs (both-right (all (b x) xs) _ e))
     where
       go : (t : Bool) → p x ≡ t → xs ≡ keep (λ x. not (p x)) xs ++ keep p xs → x ∷ xs ≡ cond (not t) (x ∷ keep (λ x. not (p x)) xs) (keep (λ x. not (p x)) xs) ++ cond t (x ∷ keep p xs) (keep p xs)
-      go true t r = sym (ap₂ (λ l m. l ++ (x ∷ m)) (none xs (λ y h. up x y t (all-at (b x) xs (both-left (all (b x) xs) _ e) h))) (keep-all p xs (every xs (λ y h. up x y t (all-at (b x) xs (both-left (all (b x) xs) _ e) h)))))
+      go true t r = sym (ap₂ (λ l m. l ++ (x ∷ m)) (keep-none (λ x. not (p x)) xs (λ y h. ap not (later y h))) (keep-all p xs (all-from p xs later)))
         where
-          none : (ys : List A) → ((y : A) → List·Memᴰ y ys → p y ≡ true) → keep (λ x. not (p x)) ys ≡ []
-          none [] f = refl
-          none (y ∷ ys) f = rw (f y (List·Memᴰ·head refl)) (none ys (λ z h. f z (List·Memᴰ·tail h)))
-
-          every : (ys : List A) → ((y : A) → List·Memᴰ y ys → p y ≡ true) → all p ys ≡ true
-          every [] f = refl
-          every (y ∷ ys) f = rw (f y (List·Memᴰ·head refl)) (every ys (λ z h. f z (List·Memᴰ·tail h)))
+          later : (y : A) → List·Memᴰ y xs → p y ≡ true
+          later y h = up x y t (all-at (b x) xs (both-left (all (b x) xs) _ e) h)
       go false t r = ap (λ l. x ∷ l) r
 
 module _ {A : Type 0} (rule : Rule A) (full : List A) (law : Lawful rule full) where
