@@ -13,8 +13,8 @@ abbrev pub rowsOf : ℕ → ℕ → List ℕ → List (List ℕ)
 rowsOf k n xs = map (rowOf k xs) (upTo n)
 
 -- the rows of a table of pairs
-abbrev pub row2 : List ℕ → ℕ → List ℕ
-row2 xs i = getD xs (2 * i) 0 ∷ getD xs (2 * i + 1) 0 ∷ []
+abbrev pub pairAt : List ℕ → ℕ → List ℕ
+pairAt xs i = getD xs (2 * i) 0 ∷ getD xs (2 * i + 1) 0 ∷ []
 
 abbrev pub pairs : List ℕ → List (List ℕ)
-pairs xs = map (row2 xs) (upTo (length xs / 2))
+pairs xs = map (pairAt xs) (upTo (length xs / 2))

@@ -6,9 +6,8 @@ ghost use Prim.Native.Nat.{_/_, _*_, _≤_, _<_};
 ghost use lib.ListN.{length, getD, take};
 ghost use Rattle.base.specs.Lists.{keep, upTo, isIn, distinct, lastOr};
 ghost use Rattle.templates.specs.Tables.{hexahedron, prism, pyramid, at};
-ghost use Rattle.templates.specs.Flat.{rowOf, rowsOf, row2, pairs};
+ghost use Rattle.templates.specs.Flat.{rowOf, rowsOf, pairAt, pairs};
 ghost use Rattle.templates.specs.Least.{rises, risesAt, eight, formOf, formBy, leastForm};
-use space::Vertex;
 
 mod tables;
 
@@ -49,24 +48,19 @@ pub enum Least {
 // ---- a tuple: the vertices of its corners, in letter order
 
 // The vertex at a corner; 0 past the end.
-pub fn corner(c: &[u16], k: u8) -> Vertex
-    ensures { λ r. ⌜ r .0 ≡ getD (now (c .entry)) k 0 ⌝ }
+pub fn corner(c: &[u16], k: u8) -> u16
+    ensures { λ r. ⌜ r ≡ getD (now (c .entry)) k 0 ⌝ }
 {
     let at = k as usize;
-    if at < c.len() {
-        Vertex(c[at])
-    } else {
-        Vertex(0)
-    }
+    if at < c.len() { c[at] } else { 0 }
 }
 
-pub fn is_in(v: Vertex, xs: &[u16]) -> bool
-    ensures { λ r. ⌜ r ≡ isIn (v .0) (now (xs .entry)) ⌝ }
+pub fn is_in(v: u16, xs: &[u16]) -> bool
+    ensures { λ r. ⌜ r ≡ isIn v (now (xs .entry)) ⌝ }
 {
-    let x = v.0;
     let mut i = 0;
     while i < xs.len() {
-        if x == xs[i] {
+        if v == xs[i] {
             return true;
         }
         i += 1;
@@ -80,7 +74,7 @@ pub fn all_distinct(c: &[u16]) -> bool
 {
     let mut i = 0;
     while i < c.len() {
-        if is_in(Vertex(c[i]), &c[i + 1..]) {
+        if is_in(c[i], &c[i + 1..]) {
             return false;
         }
         i += 1;
@@ -93,10 +87,10 @@ pub fn all_distinct(c: &[u16]) -> bool
 // Pair i of the table is a lesser vertex and a greater.
 fn rises_at(c: &[u16], less: &[u8], i: usize) -> bool
     requires { ⌜ i < length (now less) / 2 ⌝ }
-    ensures { λ r. ⌜ r ≡ rises (at (now (c .entry)) (row2 (now (less .entry)) i)) ⌝ }
+    ensures { λ r. ⌜ r ≡ rises (at (now (c .entry)) (pairAt (now (less .entry)) i)) ⌝ }
 {
     let at = 2 * i;
-    corner(c, less[at]).0 < corner(c, less[at + 1]).0
+    corner(c, less[at]) < corner(c, less[at + 1])
 }
 
 fn all_rise(c: &[u16], less: &[u8]) -> bool
@@ -114,13 +108,10 @@ fn all_rise(c: &[u16], less: &[u8]) -> bool
 }
 
 // The vertex that a row of corners brings to place j; 0 past the row's end.
-fn turned_at(c: &[u16], row: &[u8], j: usize) -> Vertex
-    ensures { λ r. ⌜ r .0 ≡ getD (at (now (c .entry)) (now (row .entry))) j 0 ⌝ }
+fn turned_at(c: &[u16], row: &[u8], j: usize) -> u16
+    ensures { λ r. ⌜ r ≡ getD (at (now (c .entry)) (now (row .entry))) j 0 ⌝ }
 {
-    if row.len() <= j {
-        return Vertex(0);
-    }
-    corner(c, row[j])
+    if j < row.len() { corner(c, row[j]) } else { 0 }
 }
 
 // The tuple turned by a row of corners.
@@ -128,14 +119,14 @@ fn turned(c: &[u16], row: &[u8]) -> [u16; 8]
     ensures { λ r. ⌜ r ≡ eight (at (now (c .entry)) (now (row .entry))) ⌝ }
 {
     [
-        turned_at(c, row, 0).0,
-        turned_at(c, row, 1).0,
-        turned_at(c, row, 2).0,
-        turned_at(c, row, 3).0,
-        turned_at(c, row, 4).0,
-        turned_at(c, row, 5).0,
-        turned_at(c, row, 6).0,
-        turned_at(c, row, 7).0,
+        turned_at(c, row, 0),
+        turned_at(c, row, 1),
+        turned_at(c, row, 2),
+        turned_at(c, row, 3),
+        turned_at(c, row, 4),
+        turned_at(c, row, 5),
+        turned_at(c, row, 6),
+        turned_at(c, row, 7),
     ]
 }
 

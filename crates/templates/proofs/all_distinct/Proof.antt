@@ -16,17 +16,17 @@ abbrev μ-loop : tie.MeasureT-loop
 loop-holds : tie.Need-loop-holds Inv-loop μ-loop
 loop-holds c = distinct-start _
 
-mul-t3 : tie.Need-mul-t3 Inv-loop μ-loop
-mul-t3 c = omega arith
+mul-is-in : tie.Need-mul-is-in Inv-loop μ-loop
+mul-is-in c = omega arith
 
-shared-slice-read-t7 : tie.Need-shared-slice-read-t7 Inv-loop μ-loop
-shared-slice-read-t7 c = omega arith
+shared-slice-read-is-in : tie.Need-shared-slice-read-is-in Inv-loop μ-loop
+shared-slice-read-is-in c = omega arith
 
 add-is-in : tie.Need-add-is-in Inv-loop μ-loop
 add-is-in c = omega arith
 
-mul-is-in : tie.Need-mul-is-in Inv-loop μ-loop
-mul-is-in c = omega arith
+mul-is-in-2 : tie.Need-mul-is-in-2 Inv-loop μ-loop
+mul-is-in-2 c = omega arith
 
 sub-is-in : tie.Need-sub-is-in Inv-loop μ-loop
 sub-is-in c = omega arith
@@ -62,10 +62,10 @@ all-distinct-spec =
     Inv-loop
     μ-loop
     loop-holds
-    mul-t3
-    shared-slice-read-t7
-    add-is-in
     mul-is-in
+    shared-slice-read-is-in
+    add-is-in
+    mul-is-in-2
     sub-is-in
     part-is-in-start
     part-is-in-end

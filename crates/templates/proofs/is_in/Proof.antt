@@ -11,10 +11,10 @@ use Rattle.templates.proofs.is_in.Statement.{statement}
 use Rattle.templates.proofs.is_in.Tie as tie
 
 abbrev Inv-loop : tie.InvT-loop
-Inv-loop xs x i₀ i = AnyUp (eqb x) (λ j. getD xs j 0) (length xs) i
+Inv-loop v xs i₀ i = AnyUp (eqb v) (λ j. getD xs j 0) (length xs) i
 
 abbrev μ-loop : tie.MeasureT-loop
-μ-loop xs x i₀ i = length xs - i
+μ-loop v xs i₀ i = length xs - i
 
 loop-holds : tie.Need-loop-holds Inv-loop μ-loop
 loop-holds c = any-start
@@ -26,7 +26,7 @@ shared-slice-read-if1 : tie.Need-shared-slice-read-if1 Inv-loop μ-loop
 shared-slice-read-if1 c = omega arith
 
 returns : tie.Need-returns Inv-loop μ-loop
-returns c = any-found (c .before .before .before .loop .inv) (omega arith) (eq-eqb _ _ (c .if1 .taken)) ∙ ap (any (eqb (c .before .before .before .before .args .v .0))) (listed 0 (c .before .before .before .before .args .xs .now))
+returns c = any-found (c .before .before .before .loop .inv) (omega arith) (eq-eqb _ _ (c .if1 .taken)) ∙ ap (any (eqb (c .before .before .before .before .args .v))) (listed 0 (c .before .before .before .before .args .xs .now))
 
 add-i : tie.Need-add-i Inv-loop μ-loop
 add-i c = omega arith
@@ -38,7 +38,7 @@ loop-again : tie.Need-loop-again Inv-loop μ-loop
 loop-again c = any-next (c .before .before .before .loop .inv) (omega arith) (ne-eqb _ _ (c .if1 .left))
 
 returns-2 : tie.Need-returns-2 Inv-loop μ-loop
-returns-2 c = any-done (c .before .loop .inv) (omega arith) ∙ ap (any (eqb (c .before .before .args .v .0))) (listed 0 (c .before .before .args .xs .now))
+returns-2 c = any-done (c .before .loop .inv) (omega arith) ∙ ap (any (eqb (c .before .before .args .v))) (listed 0 (c .before .before .args .xs .now))
 
 pub is-in-spec : {M : Type 1} → statement M
 is-in-spec =

@@ -24,7 +24,7 @@ corner-requires-2 c κs = search needs
 
 returns : tie.Need-returns
 unfolding rises
-returns c = rw (c .before .before .before .before .corner .ensures, c .before .before .corner2 .ensures)
+returns c = rw (c .before .before .corner .ensures, c .corner2 .ensures)
 
 pub rises-at-spec : {M : Type 1} → statement M
 rises-at-spec =
