@@ -1,4 +1,5 @@
--- Demand 2: each arrangement of corners that meets the conditions is listed once, whichever way it is turned, with exactly its own tetrahedra. Nothing else is listed.
+-- Each arrangement of corners that meets the conditions is listed once, whichever way it is turned, with exactly its own tetrahedra.
+-- Nothing else is listed.
 -- Assumes nothing.
 use Prim.Native.Nat.{ℕ, zero, suc}
 use mathlib.Core.Path.{_≡_, refl, sym, _∙_, ap, ap₂, subst, fun-ext}
@@ -339,6 +340,6 @@ module _ (m : Mesh) (t : Template) (c : List ℕ) where
   unfolding numbersOf
   own-numbers = ap (numbersFrom m t c 0) (sym (by-places none (m .tets))) ∙ kept (λ i. getD (m .tets) i none) 0 (length (m .tets))
 
--- demand 2
+-- every mesh lists each of its cells once
 pub once : (m : Mesh) → Once m
 once m = record { listed = listed m; turned = turned m; entry = entry m; own = own-numbers m }

@@ -1,4 +1,5 @@
--- Demand 2: each arrangement of corners that meets the conditions is listed once, whichever way it is turned, with exactly its own tetrahedra. Nothing else is listed.
+-- Each arrangement of corners that meets the conditions is listed once, whichever way it is turned, with exactly its own tetrahedra.
+-- Nothing else is listed.
 -- Assumes nothing.
 use Prim.Native.Nat.{ℕ}
 use mathlib.Core.Path.{_≡_}
