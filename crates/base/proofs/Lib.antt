@@ -4,3 +4,5 @@ pub mod Loop
 pub mod Lay
 pub mod Signed
 pub mod Ring
+pub mod Runs
+pub mod Members

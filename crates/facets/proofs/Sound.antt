@@ -1,6 +1,6 @@
 -- What follows for the tetrahedra where no refusal from 5 to 9 applies.
 -- Assumes nothing.
-use mathlib.Core.Path.{_≡_, refl, sym, _∙_}
+use mathlib.Core.Path.{_≡_, refl, sym, _∙_, ap}
 use mathlib.Core.Bool.{Bool, true, false, not, cond, _&&_, _||_, false≢true}
 use mathlib.Core.List.{List, [], _∷_}
 use Prim.Native.Nat.{ℕ, zero, suc, _+_, _*_, _/_, _-_, _≤_, _<_}
@@ -9,14 +9,14 @@ use native.Mathlib.Omega.{arith}
 use lib.Dec.{leb, eqb}
 use lib.IntN.{ℤ}
 use lib.ListN.{length, getD}
-use borrow.Author.Tests.{leb-false, not-false}
-use Rattle.base.specs.Lists.{any, count, from, upTo, distinct}
+use borrow.Author.Tests.{leb-false, not-false, eqb-true, ne-eqb}
+use Rattle.base.specs.Lists.{any, count, from, upTo, isIn, distinct}
 use Rattle.space.specs.Box.{isAbove0}
 use Rattle.space.specs.Mesh.{holds}
 use Rattle.space.specs.Arrays.{row4, meshOf}
-use Rattle.around.specs.Index.{Labelled}
+use Rattle.around.specs.Index.{Labelled, hasAll}
 use Rattle.around.proofs.Rows.{or-left, or-right}
-use Rattle.facets.specs.Facets.{someTet, someFacet, boxAt, outside, twice, flat, full, crowded, clashes, clashing, folded, refused5, refused6, refused7, refused8, refused9, faultOf}
+use Rattle.facets.specs.Facets.{someTet, someFacet, boxAt, opposite, outside, twice, flat, full, crowded, astray, clashes, clashing, folded, refused5, refused6, refused7, refused8, refused9, faultOf}
 
 -- ---- a test that fails at all fails at each
 
@@ -78,6 +78,27 @@ Paired ls u a b c = count (holds (a ∷ b ∷ c ∷ [])) (meshOf [] ls [] .tets)
 -- no tetrahedron clashes with e there: each other one with the facet has its fourth vertex strictly on the other side
 abbrev pub Faced : List ℤ → List ℕ → ℕ → ℕ → ℕ → ℕ → ℕ → Type 0
 Faced zs ls e u a b c = (m : ℕ) → m < length ls / 4 → clashes zs ls e u a b c m ≡ false
+
+and-rest : (a b : Bool) → a ≡ true → (a && b) ≡ false → b ≡ false
+and-rest true b t e = e
+and-rest false b t e = absurd (false≢true t)
+
+member-not : (q : ℕ → Bool) (w : ℕ) (xs : List ℕ) → any q xs ≡ false → isIn w xs ≡ true → q w ≡ false
+member-not q w [] e h = absurd (false≢true h)
+member-not q w (x ∷ xs) e h = go (eqb w x) refl h (member-not q w xs (or-right (q x) (any q xs) e))
+  where
+    go : (b : Bool) → eqb w x ≡ b → (b || isIn w xs) ≡ true → (isIn w xs ≡ true → q w ≡ false) → q w ≡ false
+    go true s h r = rw (eqb-true w x s) (or-left (q x) (any q xs) e)
+    go false s h r = r h
+
+-- where m does not clash: its vertex off the facet is strictly on the other side
+pub no-clash : (zs : List ℤ) (ls : List ℕ) (e u a b c m w : ℕ) → clashes zs ls e u a b c m ≡ false → (m ≡ e → ⊥) → hasAll ls (a ∷ b ∷ c ∷ []) m ≡ true → isIn w (row4 ls m) ≡ true → isIn w (a ∷ b ∷ c ∷ []) ≡ false → opposite (boxAt zs a b c u) (boxAt zs a b c w) ≡ true
+unfolding clashes astray
+no-clash zs ls e u a b c m w k d h i o =
+    let f = any (astray zs u a b c) (row4 ls m) in
+    let g : f ≡ false = and-rest (hasAll ls (a ∷ b ∷ c ∷ []) m) f h (and-rest (not (eqb m e)) (hasAll ls (a ∷ b ∷ c ∷ []) m && f) (ap not (ne-eqb m e d)) k) in
+    let q : astray zs u a b c w ≡ false = member-not (astray zs u a b c) w (row4 ls m) g i in
+    not-false _ (and-rest (not (isIn w (a ∷ b ∷ c ∷ []))) (not (opposite (boxAt zs a b c u) (boxAt zs a b c w))) (ap not o) q)
 
 pub record Sound (zs : List ℤ) (ls : List ℕ) : Type 0 where
   pub labelled : Labelled ls (length zs / 3)

@@ -1,0 +1,40 @@
+-- Lists that grow at their end: maps, filters and spreads over a run of numbers. Assumes nothing.
+use mathlib.Core.Path.{_≡_, refl, sym, _∙_, ap}
+use mathlib.Core.Bool.{Bool, true, false, cond, _||_, or-false, or-assoc}
+use mathlib.Core.List.{List, [], _∷_, _++_, map, append-assoc}
+use Prim.Native.Nat.{ℕ, zero, suc, _+_, _<_}
+use native.Mathlib.Nat.{zero-add, add-zero, suc-add, add-suc}
+use native.Mathlib.Omega.{arith}
+use Rattle.base.specs.Lists.{any, keep, spread, from, upTo}
+
+module _ {A B : Type 0} where
+  pub spread-append : (f : A → List B) (xs ys : List A) → spread f (xs ++ ys) ≡ spread f xs ++ spread f ys
+  unfolding spread
+  spread-append f [] ys = refl
+  spread-append f (x ∷ xs) ys = ap (λ l. f x ++ l) (spread-append f xs ys) ∙ sym (append-assoc (f x) (spread f xs) (spread f ys))
+
+  pub map-append : (f : A → B) (xs ys : List A) → map f (xs ++ ys) ≡ map f xs ++ map f ys
+  map-append f [] ys = refl
+  map-append f (x ∷ xs) ys = ap (λ l. f x ∷ l) (map-append f xs ys)
+
+  pub any-map : (p : B → Bool) (f : A → B) (xs : List A) → any p (map f xs) ≡ any (λ x. p (f x)) xs
+  any-map p f [] = refl
+  any-map p f (x ∷ xs) = ap (λ t. p (f x) || t) (any-map p f xs)
+
+pub any-snoc : {A : Type 0} (p : A → Bool) (xs : List A) (x : A) → any p (xs ++ x ∷ []) ≡ (any p xs || p x)
+any-snoc p [] x = or-false (p x)
+any-snoc p (y ∷ ys) x = ap (λ t. p y || t) (any-snoc p ys x) ∙ sym (or-assoc (p y) (any p ys) (p x))
+
+pub from-add : (i a b : ℕ) → from i (a + b) ≡ from i a ++ from (i + a) b
+from-add i zero b = rw (zero-add, add-zero)
+from-add i (suc a) b = rw (suc-add, add-suc) (ap (λ l. i ∷ l) (rw (from-add (suc i) a b, suc-add)))
+
+-- one number more
+pub upTo-more : (u : ℕ) → upTo (u + 1) ≡ upTo u ++ u ∷ []
+upTo-more u = from-add 0 u 1 ∙ ap (λ k. upTo u ++ k ∷ []) (zero-add u)
+
+-- two tests that agree on a run keep the same
+pub keep-same : (p q : ℕ → Bool) (i k : ℕ) → ((x : ℕ) → x < i + k → p x ≡ q x) → keep p (from i k) ≡ keep q (from i k)
+unfolding keep
+keep-same p q i zero h = refl
+keep-same p q i (suc k) h = rw (h i (omega arith), keep-same p q (suc i) k (λ x l. h x (omega arith)))

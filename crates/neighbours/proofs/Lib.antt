@@ -1,0 +1,7 @@
+pub mod Rows
+pub mod Marking
+pub mod Law
+pub mod Tets
+pub mod Whole
+pub mod Reading
+pub mod Worked

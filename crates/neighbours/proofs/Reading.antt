@@ -1,0 +1,57 @@
+-- What stands where in a neighbour table, whatever follows it. Assumes nothing.
+use mathlib.Core.Path.{_≡_, refl, sym, _∙_, ap}
+use mathlib.Core.List.{List, [], _∷_, _++_, map, append-assoc}
+use Prim.Native.Nat.{ℕ, zero, suc, _+_, _-_, _≤_, _<_}
+use native.Mathlib.Nat.{zero-add, add-assoc}
+use native.Mathlib.Omega.{arith}
+use lib.ListN.{length, getD, take, drop, length-append, List·getD-append}
+use lib.Seq.{drop-at, take-at, getD-at, getD-drop}
+use Rattle.base.specs.Lists.{spread, from, upTo}
+use Rattle.base.proofs.Runs.{from-add, spread-append, map-append}
+use Rattle.neighbours.specs.Table.{rowsOf, offsets, tableBy}
+use Rattle.neighbours.proofs.Rows.{offs, offs-all, length-offs, rows-more}
+
+module _ (row : ℕ → List ℕ) (n : ℕ) (rest : List ℕ) where
+  abbrev table : List ℕ
+  table = tableBy row n ++ rest
+
+  length-offsets : length (offsets row n) ≡ n + 1
+  length-offsets = ap length (sym (offs-all row n)) ∙ length-offs row (n + 1)
+
+  -- the offset of a row
+  pub offset-at : (u : ℕ) → u ≤ n → getD table u 0 ≡ length (rowsOf row u)
+  unfolding tableBy
+  offset-at u h =
+      let e : n + 1 ≡ u + suc (n - u) = omega arith in
+      let f : ℕ → ℕ = λ v. length (rowsOf row v) in
+      let s : offsets row n ≡ offs row u ++ f (0 + u) ∷ map f (from (suc (0 + u)) (n - u)) =
+      sym (offs-all row n) ∙ ap (offs row) e ∙ ap (map f) (from-add 0 u (suc (n - u))) ∙ map-append f (upTo u) (from (0 + u) (suc (n - u))) in
+      ap (λ l. getD l u 0) (append-assoc (offsets row n) (rowsOf row n) rest ∙ ap (λ l. l ++ (rowsOf row n ++ rest)) s
+      ∙ append-assoc (offs row u) (f (0 + u) ∷ map f (from (suc (0 + u)) (n - u))) (rowsOf row n ++ rest))
+      ∙ getD-at (offs row u) (f (0 + u)) _ 0 u (length-offs row u) ∙ ap f (zero-add u)
+
+  -- what follows the offsets and the rows before u begins with row u
+  rows-from : (u : ℕ) → u < n → (r : List ℕ) × (drop (n + 1 + length (rowsOf row u)) table ≡ row u ++ r)
+  unfolding tableBy rowsOf spread
+  rows-from u h =
+      let e : n ≡ u + 1 + (n - u - 1) = omega arith in
+      let w = spread row (from (0 + (u + 1)) (n - u - 1)) in
+      let s : rowsOf row n ≡ rowsOf row u ++ row u ++ w =
+      ap (rowsOf row) e ∙ ap (spread row) (from-add 0 (u + 1) (n - u - 1)) ∙ spread-append row (upTo (u + 1)) (from (0 + (u + 1)) (n - u - 1)) ∙ ap (λ l. l ++ w) (rows-more row u) in
+      let p = offsets row n ++ rowsOf row u in
+      let t : offsets row n ++ (rowsOf row u ++ row u ++ w) ++ rest ≡ p ++ (row u ++ (w ++ rest)) = simp append-assoc in (
+        w ++ rest,
+        ap (drop (n + 1 + length (rowsOf row u)))
+            (ap (λ l. offsets row n ++ l ++ rest) s ∙ t)
+            ∙ drop-at p (row u ++ (w ++ rest)) (n + 1 + length (rowsOf row u)) (length-append (offsets row n) (rowsOf row u) ∙ ap (λ k. k + length (rowsOf row u)) length-offsets),
+      )
+
+  -- the row, as a part of the table
+  pub row-at : (u : ℕ) → u < n → take (length (row u)) (drop (n + 1 + length (rowsOf row u)) table) ≡ row u
+  row-at u h = let d = rows-from u h in ap (take (length (row u))) (d .1) ∙ take-at (row u) (d .0) (length (row u)) refl
+
+  -- one of its entries
+  pub entry-at : (u i : ℕ) → u < n → i < length (row u) → getD table (n + 1 + length (rowsOf row u) + i) 0 ≡ getD (row u) i 0
+  entry-at u i h k =
+      let d = rows-from u h in
+      sym (getD-drop (n + 1 + length (rowsOf row u)) table i 0) ∙ ap (λ l. getD l i 0) (d .1) ∙ List·getD-append (row u) (d .0) 0 i k

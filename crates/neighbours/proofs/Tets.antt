@@ -1,0 +1,56 @@
+-- The neighbours by labels are those of the decoded mesh, whatever its points and parts. Assumes nothing.
+use mathlib.Core.Path.{_≡_, refl, sym, _∙_, ap, fun-ext}
+use mathlib.Core.Bool.{Bool, true, false, _&&_, _||_, or-false, and-true, and-comm}
+use mathlib.Core.List.{List, [], _∷_, _++_, map}
+use Prim.Native.Nat.{ℕ, zero, suc, _+_, _*_, _/_}
+use native.Mathlib.Numerals.{add-one}
+use lib.Dec.{eqb}
+use lib.IntN.{ℤ}
+use lib.ListN.{length, getD}
+use Rattle.base.specs.Lists.{all, any, isIn, upTo}
+use Rattle.base.proofs.Runs.{any-map, any-snoc, upTo-more}
+use Rattle.space.specs.Mesh.{together, holds}
+use Rattle.space.specs.Arrays.{row4, tetAt, meshOf}
+use Rattle.neighbours.specs.Table.{rowOf, neighboursOf, tableBy, tableOf}
+use Rattle.neighbours.specs.Marks.{near, ofTet, isOne}
+
+-- tetrahedron i has these vertices
+abbrev hasAll : List ℕ → List ℕ → ℕ → Bool
+hasAll l vs i = all (λ x. isIn x (row4 l i)) vs
+
+four : (a b c d : Bool) → (a || (b || (c || (d || false)))) ≡ (((a || b) || c) || d)
+four true b c d = refl
+four false true c d = refl
+four false false true d = refl
+four false false false true = refl
+four false false false false = refl
+
+same : (l : List ℕ) (i u v : ℕ) → hasAll l (u ∷ v ∷ []) i ≡ (ofTet l i v && ofTet l i u)
+same l i u v =
+    ap (λ t. isIn u (row4 l i) && t) (and-true (isIn v (row4 l i)))
+    ∙ and-comm (isIn u (row4 l i)) (isIn v (row4 l i))
+    ∙ ap (λ t. t && isIn u (row4 l i)) (four (eqb v (getD l (4 * i) 0)) (eqb v (getD l (4 * i + 1) 0)) (eqb v (getD l (4 * i + 2) 0)) (eqb v (getD l (4 * i + 3) 0)))
+    ∙ ap (λ t. ofTet l i v && t) (four (eqb u (getD l (4 * i) 0)) (eqb u (getD l (4 * i + 1) 0)) (eqb u (getD l (4 * i + 2) 0)) (eqb u (getD l (4 * i + 3) 0)))
+
+near-any : (l : List ℕ) (t u v : ℕ) → near l t u v ≡ any (hasAll l (u ∷ v ∷ [])) (upTo t)
+unfolding near
+near-any l zero u v = refl
+near-any l (suc t) u v =
+    ap (λ b. b || (ofTet l t v && ofTet l t u)) (near-any l t u v)
+    ∙ ap (λ b. any (hasAll l (u ∷ v ∷ [])) (upTo t) || b) (sym (same l t u v))
+    ∙ sym (any-snoc (hasAll l (u ∷ v ∷ [])) (upTo t) t)
+    ∙ ap (any (hasAll l (u ∷ v ∷ []))) (sym (upTo-more t) ∙ ap upTo (add-one t))
+
+module _ (zs : List ℤ) (l ps : List ℕ) where
+  pub near-together : (u v : ℕ) → near l (length l / 4) u v ≡ together (meshOf zs l ps) (u ∷ v ∷ [])
+  unfolding together
+  near-together u v =
+      near-any l (length l / 4) u v ∙ sym (any-map (holds (u ∷ v ∷ [])) (tetAt l ps) (upTo (length l / 4)))
+
+  pub near-row : (n : ℕ) → rowOf (near l (length l / 4)) n ≡ neighboursOf (meshOf zs l ps) n
+  unfolding neighboursOf
+  near-row n = ap (λ f. rowOf f n) (fun-ext (λ u. fun-ext (near-together u)))
+
+  pub near-table : (n : ℕ) → tableBy (rowOf (near l (length l / 4)) n) n ≡ tableOf (meshOf zs l ps) n
+  unfolding tableOf
+  near-table n = ap (λ r. tableBy r n) (near-row n)

@@ -1,0 +1,48 @@
+-- The neighbour table: where the row of each vertex starts, and the rows, each with its neighbours rising.
+-- Assumes nothing.
+use Prim.Native.Nat.{ℕ, _+_}
+use mathlib.Core.Bool.{Bool, cond, not, _&&_}
+use mathlib.Core.List.{List, [], _∷_, _++_, map}
+use lib.Dec.{eqb, ltb}
+use lib.ListN.{length, drop}
+use Rattle.base.specs.Lists.{keep, spread, upTo}
+use Rattle.space.specs.Mesh.{Mesh, together}
+use Rattle.neighbours.specs.declared.Filled.{Filled}
+use Rattle.neighbours.specs.declared.Filled.the-variants.{Entries, Short}
+
+-- of the vertices below n, those that f says are next to u, and u not
+unfoldable pub rowOf : (ℕ → ℕ → Bool) → ℕ → ℕ → List ℕ
+rowOf f n u = keep (λ v. not (eqb u v) && f u v) (upTo n)
+
+-- the first k rows end to end
+unfoldable pub rowsOf : (ℕ → List ℕ) → ℕ → List ℕ
+rowsOf row k = spread row (upTo k)
+
+-- where each of the n rows starts, counted from the end of the offsets, and where the last one ends
+unfoldable pub offsets : (ℕ → List ℕ) → ℕ → List ℕ
+offsets row n = map (λ u. length (rowsOf row u)) (upTo (n + 1))
+
+unfoldable pub tableBy : (ℕ → List ℕ) → ℕ → List ℕ
+tableBy row n = offsets row n ++ rowsOf row n
+
+module _ (m : Mesh) (n : ℕ) where
+  -- the neighbours of u, rising: other vertices, below n, that stand with it in a tetrahedron
+  unfoldable pub neighboursOf : ℕ → List ℕ
+  neighboursOf = rowOf (λ u v. together m (u ∷ v ∷ [])) n
+
+  -- the neighbour table of n vertices
+  unfoldable pub tableOf : List ℕ
+  tableOf = tableBy neighboursOf n
+
+  -- the answer for a slice of this many entries
+  unfoldable pub filledOf : ℕ → Filled
+  filledOf room = cond (ltb room (length tableOf)) Short (Entries (length tableOf))
+
+  -- what the slice holds at exit
+  unfoldable pub tableAfter : List ℕ → List ℕ
+  tableAfter old = cond (ltb (length old) (length tableOf)) old (tableOf ++ drop (length tableOf) old)
+
+-- the number of a refusal, and 0 for a table that was filled
+abbrev pub fillNumber : Filled → ℕ
+fillNumber (Entries k) = 0
+fillNumber Short = 10

@@ -1,0 +1,11 @@
+pub mod Order
+pub mod Portions
+pub mod Run
+pub mod Loop
+pub mod Tuples
+pub mod Search
+pub mod Turns
+pub mod Calls
+pub mod Filter
+pub mod Least
+pub mod Firm

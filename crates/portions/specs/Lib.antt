@@ -1,0 +1,4 @@
+pub mod Portions
+pub mod Run
+pub mod Steps
+pub mod Tuples
