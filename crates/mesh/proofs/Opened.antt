@@ -7,6 +7,7 @@ use native.Mathlib.Omega.{arith}
 use lib.Dec.{ltb}
 use lib.ListN.{length}
 use borrow.Author.Tests.{le-leb, eq-eqb, le-ltb}
+use denote.Ref.{RefT, now}
 use Rattle.space.specs.Mesh.{point}
 use Rattle.space.specs.declared.Vertex.{Vertex}
 use Rattle.space.specs.declared.Tet.{Tet}
@@ -21,6 +22,7 @@ use Rattle.mesh.specs.declared.Tetra.{Tetra}
 use Rattle.mesh.specs.declared.Tetra.the-variants.{Joins, NoTet}
 use Rattle.mesh.specs.declared.Part.{Part}
 use Rattle.mesh.specs.declared.Part.the-variants.{Number, NoPart}
+use Rattle.mesh.specs.declared.View.{View}
 use Rattle.mesh.proofs.Accepted.{Given, accepted-gives}
 
 -- the counts of the view
@@ -83,3 +85,14 @@ module _ (f : List ℕ) where
   pub part-empty : (j : Tet) → partIn f 0 0 j ≡ NoPart
   unfolding partIn
   part-empty j = nowhere (fits f 0 0) (j .0) _ _
+
+-- ---- two views that the promise of `open` permits are one
+
+pub record Opens (file : RefT (List ℕ)) (r : View) : Type 0 where
+  pub held : r .file ≡ file
+  pub vertexCount : r .n ≡ sizesIn (now file) .n
+  pub tetCount : r .t ≡ sizesIn (now file) .t
+
+pub open-one : (file : RefT (List ℕ)) (r s : View) → Opens file r → Opens file s → r ≡ s
+open-one file r s p q =
+    λ i. record { file = (p .held ∙ sym (q .held)) i; n = (p .vertexCount ∙ sym (q .vertexCount)) i; t = (p .tetCount ∙ sym (q .tetCount)) i }
