@@ -1,5 +1,6 @@
 // Which tetrahedra a cell has, and whether they fill it and are of one part: conditions 5 and 6.
 ghost use mathlib.Core.Path.{_≡_};
+ghost use mathlib.Core.Bool.{true};
 ghost use mathlib.Core.List.{[], _∷_};
 ghost use Prim.Native.Nat.{_/_, _<_};
 ghost use lib.Dec.{eqb};
@@ -12,7 +13,7 @@ ghost use Rattle.templates.specs.Tables.{at};
 ghost use Rattle.cells.specs.Cells.{noneOrTwo, isDiagonal, belongs, numbersOf};
 ghost use Rattle.cells.specs.Rows.{row3, threes, fours, quadsOf};
 ghost use Rattle.filling.specs.Found.{Found, pushed};
-ghost use Rattle.filling.specs.Next.{Lesser, Least, NextOf};
+ghost use Rattle.filling.specs.Next.{Lesser, Least, Visited, NextOf};
 ghost use Rattle.filling.specs.Filled.{sidesIn, once, paired, covers, fills, onePart};
 use around::row_of;
 use cells::corners3;
@@ -132,8 +133,21 @@ fn least_in(labels: &[u16], row: &[u16], lo: usize, hi: usize, c: &[u16], quads:
     least
 }
 
-// The same of the tetrahedra around a vertex.
-fn least_at(
+// The search's state at a corner: the least tetrahedron so far, and how many corners were left out.
+struct Step {
+    least: usize,
+    out: usize,
+}
+
+// A corner with many tetrahedra may be left out, as one of at most three: four vertices of a tetrahedron do not all stand among three.
+fn is_crowded(out: usize, size: usize) -> bool
+    ensures { λ r. ⌜ (r ≡ true → out < 3) ⌝ }
+{
+    if out < 3 { 40 < size } else { false }
+}
+
+// The same of the tetrahedra around one vertex more, unless that is left out.
+fn visit(
     labels: &[u16],
     n: usize,
     offsets: &[u16],
@@ -141,19 +155,29 @@ fn least_at(
     v: Vertex,
     lo: usize,
     hi: usize,
+    out: usize,
     c: &[u16],
     quads: &[u8],
-) -> usize
+) -> Step
     requires { ⌜ Indexed (now labels) n (now offsets) (now entries) ⌝ }
-    ensures { λ r. ⌜ Least (λ j. belongs (meshOf [] (now (labels .entry)) []) (quadsOf (now (quads .entry))) (now (c .entry)) (tetAt (now (labels .entry)) [] j)) lo hi (around (now (labels .entry)) (v .0)) (length (around (now (labels .entry)) (v .0))) r ⌝ }
+    ensures { λ r. ⌜ Visited (λ j. belongs (meshOf [] (now (labels .entry)) []) (quadsOf (now (quads .entry))) (now (c .entry)) (tetAt (now (labels .entry)) [] j)) lo hi out (around (now (labels .entry)) (v .0)) r ⌝ }
 {
     let row = row_of(labels, n, offsets, entries, v);
     let from = row.from;
-    let end = from + row.size;
-    least_in(labels, &entries[from..end], lo, hi, c, quads)
+    let size = row.size;
+    if is_crowded(out, size) {
+        return Step {
+            least: hi,
+            out: out + 1,
+        };
+    }
+    let end = from + size;
+    let least = least_in(labels, &entries[from..end], lo, hi, c, quads);
+    Step { least, out }
 }
 
-// The next of the cell's tetrahedra, from lo on; their number where there is none. Each has a corner of the cell, so it is looked for around these.
+// The next of the cell's tetrahedra, from lo on; the number of all where there is none. Each has a corner of the cell, so it is looked for
+// around these, but for three of the crowded ones.
 fn next(
     labels: &[u16],
     n: usize,
@@ -167,10 +191,24 @@ fn next(
     ensures { λ r. ⌜ NextOf (λ j. belongs (meshOf [] (now (labels .entry)) []) (quadsOf (now (quads .entry))) (now (c .entry)) (tetAt (now (labels .entry)) [] j)) lo (length (now (labels .entry)) / 4) r ⌝ }
 {
     let mut least = labels.len() / 4;
+    let mut out: usize = 0;
     let mut k = 0;
     while k < c.len() {
         let v = c[k];
-        least = least_at(labels, n, offsets, entries, Vertex(v), lo, least, c, quads);
+        let s = visit(
+            labels,
+            n,
+            offsets,
+            entries,
+            Vertex(v),
+            lo,
+            least,
+            out,
+            c,
+            quads,
+        );
+        least = s.least;
+        out = s.out;
         k += 1;
     }
     least
