@@ -1,0 +1,54 @@
+-- `cells::all_split` meets its contract. Assumes nothing.
+use mathlib.Core.Path.{_≡_, refl, sym, _∙_}
+use Prim.Native.Nat.{_/_, _-_}
+use lib.ListN.{length}
+use mathlib.Core.List.{[]}
+use borrow.Author.Tests.{not-true, not-false}
+use Rattle.space.specs.Arrays.{row4, meshOf}
+use Rattle.cells.specs.Rows.{quadsOf}
+use Rattle.cells.specs.Cells.{isSplit}
+use Rattle.base.proofs.Loop.{AllUp, all-start, all-next, all-fails, all-done}
+use native.Mathlib.Omega.{arith}
+use Rattle.cells.proofs.all_split.Statement.{statement}
+use Rattle.cells.proofs.all_split.Tie as tie
+
+abbrev Inv-loop : tie.InvT-loop
+Inv-loop labels n offsets entries c rows k i₀ i = (k ≡ length rows / 4) × AllUp (isSplit (meshOf [] labels []) (quadsOf []) c) (row4 rows) k i
+
+abbrev μ-loop : tie.MeasureT-loop
+μ-loop labels n offsets entries c rows k i₀ i = k - i
+
+loop-holds : tie.Need-loop-holds Inv-loop μ-loop
+loop-holds c = (refl, all-start)
+
+split-requires : tie.Need-split-requires Inv-loop μ-loop
+split-requires c κs = (c .before .before .before .before .before .before .before .pre, omega arith)
+
+returns : tie.Need-returns Inv-loop μ-loop
+returns c = all-fails (c .before .before .before .loop .inv .1) (omega arith) (sym (c .before .split .ensures) ∙ not-true _ (c .if1 .taken))
+
+add-i : tie.Need-add-i Inv-loop μ-loop
+add-i c = omega arith
+
+loop-less : tie.Need-loop-less Inv-loop μ-loop
+loop-less c = omega arith
+
+loop-again : tie.Need-loop-again Inv-loop μ-loop
+loop-again c = (refl, all-next (c .before .before .before .loop .inv .1) (omega arith) (sym (c .before .split .ensures) ∙ not-false _ (c .if1 .left)))
+
+returns-2 : tie.Need-returns-2 Inv-loop μ-loop
+returns-2 c = all-done (c .before .loop .inv .1) (omega arith)
+
+pub all-split-spec : {M : Type 1} → statement M
+all-split-spec =
+    tie.close
+    (tie.spec
+    Inv-loop
+    μ-loop
+    loop-holds
+    split-requires
+    returns
+    add-i
+    loop-less
+    loop-again
+    returns-2)
