@@ -1,5 +1,6 @@
 pub mod Order
 pub mod Portions
+pub mod Run
 pub mod Loop
 pub mod Tuples
 pub mod Search
@@ -7,3 +8,4 @@ pub mod Turns
 pub mod Calls
 pub mod Filter
 pub mod Least
+pub mod Firm

@@ -8,15 +8,18 @@ use mathlib.Core.List.{List, [], _∷_, _++_, append-assoc, append-nil, List·Me
 use lib.ListN.{length, take, drop, length-append, length-drop}
 use lib.Seq.{take-all, take-at, take-append-add, take-append-seam, drop-append-add, drop-drop, sets, sets-eq}
 use native.Mathlib.Omega.{arith}
-use native.Mathlib.Nat.{suc-mul, le-div-iff-mul-le}
+use native.Mathlib.Nat.{suc-mul, zero-add, le-div-iff-mul-le}
 use borrow.Author.Tests.{lt-ltb, le-ltb, le-leb, lt-leb}
-use Rattle.base.specs.Lists.{all, leading}
-use Rattle.portions.specs.Portions.{rises, Rule, refused, given, reply, isAfter, after, records, lastMark, portionOf, portion, Lawful}
-use Rattle.portions.specs.Steps.{Next, Under}
+use Rattle.base.specs.Lists.{all, leading, spread}
+use Rattle.base.specs.Laid.{Laid}
+use Rattle.base.proofs.Lay.{laid-none, laid-more, laid-as}
+use Rattle.portions.specs.Portions.{rises, Rule, Answer, refused, given, reply, isAfter, after, records, lastMark, portionOf, portion, Lawful}
+use Rattle.portions.specs.Run.{Outcome}
+use Rattle.portions.specs.Steps.{Next, Under, Come}
 use Rattle.base.proofs.Lists.{both-left, both-right, all-at}
 use Rattle.base.proofs.Members.{keep-at, keep-has, keep-none}
 use Rattle.portions.proofs.Order.{before-irrefl, before-trans, keep-rises}
-use Rattle.portions.proofs.Portions.{after-first, sized, part-of}
+use Rattle.portions.proofs.Portions.{records-append, after-first, sized, part-of}
 
 module _ {A : Type 0} (rule : Rule A) (full : List A) (law : Lawful rule full) where
   -- without room for a record
@@ -146,3 +149,52 @@ module _ {A : Type 0} (rule : Rule A) (full : List A) (law : Lawful rule full) w
         is-first
         ∙ ap (λ r. portionOf rule k (done ++ r) (room / rule .size)) (next-found x)
         ∙ rw (w, all-stop (rule .fits) done c (take n rest) (u .fit) f, leading-stop (rule .fits) done c (take n rest) (u .fit) f)
+
+  -- ── the loop and its room ──
+
+  -- no room for a record: refusal 11, and the room stays
+  pub outcome-short : (k old : List ℕ) → length old < rule .size → Outcome rule full k old (refused 11) old
+  outcome-short k old h =
+      let e = portion-short k (length old) h in
+      record { answered = ap (λ p. p .answer) (sym e); stored = laid-none 0 _ old (ap (λ p. p .written) e) (omega arith) }
+
+  pub come-start : (k old : List ℕ) → Come rule full k old k 0 old
+  unfolding records spread
+  come-start k old = record { done = []; under = under-start k (length old); counted = refl; laid = laid-none 0 [] old refl (omega arith) }
+
+  module _ {k old j : List ℕ} {i : ℕ} {l : List ℕ} (x : Come rule full k old j i l) where
+    -- no more records than the room has place for, and where there are fewer, one more fits
+    pub come-most : i ≤ length old / rule .size
+    come-most = omega (arith, x .counted, x .under .within)
+
+    pub come-room : i < length old / rule .size → i * rule .size + rule .size ≤ length old
+    come-room h = ap-room (under-room (x .under) (omega (arith, x .counted)))
+      where
+        ap-room : length (x .done) * rule .size + rule .size ≤ length old → i * rule .size + rule .size ≤ length old
+        ap-room g = subst (λ n. n * rule .size + rule .size ≤ length old) (x .counted) g
+
+    -- one more record is written behind the others
+    pub come-step : {found : Bool} {c : A} {l′ : List ℕ} → Next rule full j found c → found ≡ true → i < length old / rule .size → rule .fits c ≡ true → Laid (i * rule .size) (rule .entries c) l l′ → Come rule full k old (rule .mark c) (i + 1) l′
+    unfolding records spread
+    come-step {c = c} n t h f d = record {
+      done = x .done ++ (c ∷ []);
+      under = under-step (x .under) (next-is t n) (omega (arith, x .counted)) f;
+      counted = length-append (x .done) (c ∷ []) ∙ ap (λ m. m + 1) (x .counted);
+      laid = laid-more (x .laid) (i * rule .size) (sym (zero-add (length (records rule (x .done))) ∙ under-size (x .under) ∙ ap (λ m. m * rule .size) (x .counted))) d (records-append rule (x .done) (c ∷ []) ∙ ap (λ r. records rule (x .done) ++ r) (append-nil (rule .entries c)));
+    }
+
+    ends-with : {a b : Answer} → portion rule full k (length old) ≡ reply a (records rule (x .done)) → a ≡ b → Outcome rule full k old b l
+    ends-with e q = record { answered = sym q ∙ ap (λ p. p .answer) (sym e); stored = laid-as (x .laid) (ap (λ p. p .written) (sym e)) }
+
+    module _ (wide : rule .size ≤ length old) {found : Bool} {c : A} (n : Next rule full j found c) where
+      -- no cell is left: the end is told
+      pub outcome-none : found ≡ false → Outcome rule full k old (given i true (rule .end)) l
+      outcome-none t = ends-with (portion-none wide (x .under) (next-is t n)) (ap (λ m. given m true (rule .end)) (x .counted))
+
+      -- a cell is left and the room is full: the end is not told, and the mark is that of the last cell written
+      pub outcome-full : found ≡ true → i ≡ length old / rule .size → Outcome rule full k old (given i false j) l
+      outcome-full t h = ends-with (portion-full wide (x .under) (next-is t n) (x .counted ∙ h)) (ap (λ m. given m false j) (x .counted))
+
+      -- a cell is left, with room for it, that no record can hold: refusal 12
+      pub outcome-long : found ≡ true → i < length old / rule .size → rule .fits c ≡ false → Outcome rule full k old (refused 12) l
+      outcome-long t h f = ends-with (portion-long wide (x .under) (next-is t n) (omega (arith, x .counted)) f) refl

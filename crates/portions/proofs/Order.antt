@@ -13,7 +13,7 @@ use borrow.Author.Tests.{ltb-true, eqb-true, lt-ltb, le-ltb, eq-eqb}
 use Rattle.base.specs.Lists.{all, keep, spread, from}
 use Rattle.portions.specs.Portions.{before, rises}
 use Rattle.base.proofs.Lists.{both-left, both-right, all-at, all-from}
-use Rattle.base.proofs.Members.{keep-at, all-map, spread-at, from-at}
+use Rattle.base.proofs.Members.{keep-at, all-map, all-both, spread-at, from-at}
 
 -- ── the order ──
 
@@ -98,10 +98,6 @@ module _ {A : Type 0} where
   rises-append b (x ∷ xs) ys e g f =
       rw (rises-append b xs ys (both-right (all (b x) xs) _ e) g (λ y z h. f y z (List·Memᴰ·tail h)))
       (rw (all-both (b x) xs ys (both-left (all (b x) xs) _ e) (all-from (b x) ys (λ y h. f x y (List·Memᴰ·head refl) h))))
-    where
-      all-both : (p : A → Bool) (xs ys : List A) → all p xs ≡ true → all p ys ≡ true → all p (xs ++ ys) ≡ true
-      all-both p [] ys e g = g
-      all-both p (x ∷ xs) ys e g = rw (both-left (p x) (all p xs) e, all-both p xs ys (both-right (p x) (all p xs) e) g)
 
 pub rises-map : {A B : Type 0} (b : B → B → Bool) (f : A → B) (xs : List A) → rises b (map f xs) ≡ rises (λ x y. b (f x) (f y)) xs
 unfolding rises

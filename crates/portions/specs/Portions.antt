@@ -1,11 +1,11 @@
 -- Marks, records and portions, over any rule of cells.
 -- Assumes nothing.
-use Prim.Native.Nat.{ℕ, _<_, _/_}
+use Prim.Native.Nat.{ℕ, zero, suc, _<_, _/_}
 use mathlib.Core.Path.{_≡_}
 use mathlib.Core.Bool.{Bool, true, false, cond, _&&_, _||_}
 use mathlib.Core.List.{List, [], _∷_, map, List·Memᴰ}
 use lib.Dec.{eqb, ltb, leb}
-use lib.ListN.{length, take}
+use lib.ListN.{length, take, drop}
 use Rattle.base.specs.Lists.{all, keep, spread, leading, lastOr}
 
 -- x is before y: at the first place where they differ, x has the less
@@ -87,3 +87,13 @@ module _ {A : Type 0} (rule : Rule A) where
     pub rising : rises (λ c d. isAfter (rule .mark c) d) full ≡ true
     pub started : after full (rule .start) ≡ full
     pub ended : after full (rule .end) ≡ []
+
+  -- a record tells its cell: a cell's entries have an inverse
+  pub record Telling (full : List A) : Type 0 where
+    pub cellOf : List ℕ → A
+    pub tells : (c : A) → List·Memᴰ c full → rule .fits c ≡ true → cellOf (rule .entries c) ≡ c
+
+  -- n records laid end to end, read back as cells
+  unfoldable pub readBack : (List ℕ → A) → ℕ → List ℕ → List A
+  readBack cellOf zero xs = []
+  readBack cellOf (suc n) xs = cellOf (take (rule .size) xs) ∷ readBack cellOf n (drop (rule .size) xs)

@@ -7,8 +7,9 @@ use mathlib.Core.Logic.{_⊎_}
 use mathlib.Core.List.{List, _++_, List·Memᴰ}
 use lib.ListN.{length}
 use Rattle.base.specs.Lists.{all}
+use Rattle.base.specs.Laid.{Laid}
 use Rattle.portions.specs.Tuples.{Agree, Lt}
-use Rattle.portions.specs.Portions.{Rule, isAfter, after, lastMark}
+use Rattle.portions.specs.Portions.{Rule, isAfter, after, records, lastMark}
 
 module _ {A : Type 0} (rule : Rule A) (full : List A) where
   -- c is the first cell after the mark k where `found` is true, and there is none where it is false
@@ -24,6 +25,13 @@ module _ {A : Type 0} (rule : Rule A) (full : List A) where
     pub fit : all (rule .fits) done ≡ true
     pub within : length done ≤ room / rule .size
     pub reached : j ≡ lastMark rule k done
+
+  -- the same of a loop that has written i records, so that the room, once old, is l
+  pub record Come (k old j : List ℕ) (i : ℕ) (l : List ℕ) : Type 0 where
+    pub done : List A
+    pub under : Under k (length old) done j
+    pub counted : length done ≡ i
+    pub laid : Laid 0 (records rule done) old l
 
 -- the cells of one kind are what tuples of this many corners make that pass `leaf`, and they rise with their tuples
 pub record Kind {A : Type 0} (rule : Rule A) (cells : List A) (corners : ℕ) (leaf : List ℕ → Bool) (make : List ℕ → A) : Type 0 where

@@ -26,7 +26,7 @@ pub enum Boxed {
     Refused,
 }
 
-fn is_near(x: i64) -> bool
+pub fn is_near(x: i64) -> bool
     ensures { λ r. ⌜ r ≡ near x ⌝ }
 {
     if x < -50000 {

@@ -1,0 +1,37 @@
+-- A loop that fills a lent slice from its first entry on: entry k is f k. Assumes nothing.
+use mathlib.Core.Path.{_≡_, sym, _∙_, ap}
+use mathlib.Core.List.{List, map}
+use Prim.Native.Nat.{ℕ, _+_, _≤_, _<_}
+use native.Mathlib.Nat.{eq-or-lt-of-le}
+use native.Mathlib.Omega.{arith}
+use mathlib.Core.Logic.{_⊎_, inl, inr}
+use lib.ListN.{length, getD, set, length-set}
+use lib.Seq.{getD-set-same, getD-set-other, ext-getD}
+use Rattle.base.specs.Lists.{upTo}
+use Rattle.base.proofs.Loop.{getD-up, length-up}
+
+-- of n entries the first i are filled
+pub record Filled {A : Type 0} (f : ℕ → A) (d : A) (n i : ℕ) (l : List A) : Type 0 where
+  pub low : i ≤ n
+  pub same : length l ≡ n
+  pub done : (k : ℕ) → k < i → getD l k d ≡ f k
+
+module _ {A : Type 0} {f : ℕ → A} {d : A} where
+  pub fill-start : (l : List A) → Filled f d (length l) 0 l
+  fill-start l = record { low = omega arith; same = omega arith; done = λ k h. absurd (omega arith) }
+
+  pub fill-next : {n i : ℕ} {l : List A} (a : A) → Filled f d n i l → i < n → a ≡ f i → Filled f d n (i + 1) (set l i a)
+  fill-next {n} {i} {l} a p h e = record {
+    low = omega arith;
+    same = length-set l i a ∙ p .same;
+    done = λ k g. at k (eq-or-lt-of-le {n = k} {m = i} (omega arith));
+  }
+    where
+      at : (k : ℕ) → (k ≡ i) ⊎ (k < i) → getD (set l i a) k d ≡ f k
+      at k (inl q) = rw q (getD-set-same l i a d (omega (arith, p .same)) ∙ e)
+      at k (inr s) = getD-set-other l i k a d (λ q. omega arith) ∙ p .done k s
+
+  pub fill-done : {n i : ℕ} {l : List A} → Filled f d n i l → n ≤ i → l ≡ map f (upTo n)
+  fill-done {n} {i} {l} p h =
+      ext-getD d l (map f (upTo n)) (p .same ∙ sym (length-up f n))
+      (λ k g. p .done k (omega (arith, p .same)) ∙ sym (getD-up f d n k (omega (arith, p .same))))

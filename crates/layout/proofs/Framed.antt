@@ -1,0 +1,118 @@
+-- What a header that is not refused tells of the file, and what the file then says. Assumes nothing.
+use mathlib.Core.Path.{_≡_, refl, sym, _∙_, ap}
+use mathlib.Core.List.{List, [], _∷_, map}
+use mathlib.Core.Bool.{Bool, true, false, cond, _&&_}
+use Prim.Native.Nat.{ℕ, zero, suc, _+_, _*_, _/_, _%_, _≤_, _<_}
+use lib.ListN.{length, drop, getD, length-drop}
+use lib.IntN.{ℤ, pos}
+use native.Mathlib.Omega.{arith}
+use lib.Dec.{leb, eqb}
+use borrow.Author.Tests.{leb-true, eqb-true}
+use Rattle.base.specs.Lists.{all, upTo}
+use Rattle.base.specs.Size.{Small}
+use Rattle.base.proofs.Bools.{and-left, and-right}
+use Rattle.base.proofs.Loop.{getD-up, getD-past, length-up}
+use Rattle.space.specs.Box.{near}
+use Rattle.space.specs.Arrays.{Close}
+use Rattle.space.proofs.Near.{near-small}
+use Rattle.layout.specs.Bytes.{u16At, u32At, i32At}
+use Rattle.layout.specs.Layout.{vertices, tets, lengthRight, countsRight, layoutRight, headed, Framed, vertexPart, tetPart, coordsIn, labelsIn, partsIn, coordsOf, labelsOf, partsOf, coordinatesRight}
+use Rattle.layout.specs.declared.Headed.{Headed}
+use Rattle.layout.specs.declared.Headed.the-variants.{Sound, Length, Counts, Layout}
+
+-- ---- the tests of the header, one by one
+
+pub record Long (f : List ℕ) : Type 0 where
+  pub least : 24 ≤ length f
+  pub most : length f ≤ 26648
+  pub total : u32At f 16 ≡ length f
+
+pub length-says : (f : List ℕ) → lengthRight f ≡ true → Long f
+unfolding lengthRight
+length-says f e =
+    let d = and-left (leb 24 (length f) && leb (length f) 26648) (eqb (u32At f 16) (length f)) e in
+    record {
+      least = leb-true _ _ (and-left (leb 24 (length f)) (leb (length f) 26648) d);
+      most = leb-true _ _ (and-right (leb 24 (length f)) (leb (length f) 26648) d);
+      total = eqb-true _ _ (and-right (leb 24 (length f) && leb (length f) 26648) (eqb (u32At f 16) (length f)) e);
+    }
+
+pub record Counted (f : List ℕ) : Type 0 where
+  pub vertex : vertices f ≤ 512
+  pub tet : tets f ≤ 2048
+
+pub counts-say : (f : List ℕ) → countsRight f ≡ true → Counted f
+unfolding countsRight
+counts-say f e =
+    record {
+      vertex = leb-true _ _ (and-left (leb (vertices f) 512) (leb (tets f) 2048) e);
+      tet = leb-true _ _ (and-right (leb (vertices f) 512) (leb (tets f) 2048) e);
+    }
+
+pub layout-says : (f : List ℕ) → layoutRight f ≡ true → u32At f 16 ≡ 24 + 12 * vertices f + 10 * tets f
+unfolding layoutRight
+layout-says f e =
+    eqb-true _ _ (and-right (eqb (u32At f 4) 24 && eqb (u32At f 12) (24 + 12 * vertices f)) _ (and-left _ (eqb (u32At f 20) 0) e))
+
+-- ---- the header's answer
+
+framed-by : (f : List ℕ) (n t : ℕ) → lengthRight f ≡ true → countsRight f ≡ true → layoutRight f ≡ true → n ≡ vertices f → t ≡ tets f → Framed f n t
+framed-by f n t a b d p q =
+    let l = length-says f a in
+    let k = counts-say f b in
+    record {
+      vertex = p;
+      tet = q;
+      fewVertices = omega arith;
+      fewTets = omega arith;
+      whole = omega (arith, layout-says f d);
+    }
+
+pub framed : (f : List ℕ) (n t : ℕ) → headed f ≡ Sound n t → Framed f n t
+unfolding headed
+framed f n t = go (lengthRight f) (countsRight f) (layoutRight f) refl refl refl
+  where
+    go : (a b d : Bool) → lengthRight f ≡ a → countsRight f ≡ b → layoutRight f ≡ d → cond a (cond b (cond d (Sound (vertices f) (tets f)) Layout) Counts) Length ≡ Sound n t → Framed f n t
+    go true true true p q r e = framed-by f n t p q r (cc) (cc)
+    go true true false p q r e = let z : _≡_ {A = ℕ} 0 1 = cc in absurd (omega arith)
+    go true false d p q r e = let z : _≡_ {A = ℕ} 0 1 = cc in absurd (omega arith)
+    go false b d p q r e = let z : _≡_ {A = ℕ} 0 1 = cc in absurd (omega arith)
+
+module _ {f : List ℕ} {n t : ℕ} (h : Framed f n t) where
+  -- the longest legal file has 26,648 bytes
+  pub longest : length f ≤ 26648
+  longest = omega (arith, h .fewVertices, h .fewTets, h .whole)
+
+  -- both parts begin inside the file, and hold what the counts say
+  pub vertex-room : 12 * n ≤ length (vertexPart f)
+  vertex-room = omega (arith, h .whole, length-drop 24 f)
+
+  pub tet-room : length (tetPart n f) ≡ 10 * t
+  tet-room = omega (arith, h .whole, length-drop (24 + 12 * n) f)
+
+-- ---- what the file says
+
+pub coords-long : (q : List ℕ) (k : ℕ) → length (coordsIn q k) ≡ k
+unfolding coordsIn
+coords-long q k = length-up (λ i. i32At q (4 * i)) k
+
+pub labels-long : (p : List ℕ) (k : ℕ) → length (labelsIn p k) ≡ k
+unfolding labelsIn
+labels-long p k = length-up (λ x. u16At p (10 * (x / 4) + 2 * (x % 4))) k
+
+pub parts-long : (p : List ℕ) (k : ℕ) → length (partsIn p k) ≡ k
+unfolding partsIn
+parts-long p k = length-up (λ j. u16At p (10 * j + 8)) k
+
+-- coordinates that pass the test are in bounds
+pub near-close : (zs : List ℤ) → all near zs ≡ true → Close zs
+near-close zs e = record { close = at zs e }
+  where
+    at : (zs : List ℤ) → all near zs ≡ true → (i : ℕ) → Small 50000 (getD zs i (pos 0))
+    at [] e i = record { small = omega arith }
+    at (z ∷ zs) e zero = near-small z (and-left (near z) (all near zs) e)
+    at (z ∷ zs) e (suc i) = at zs (and-right (near z) (all near zs) e) i
+
+pub coordinates-close : (f : List ℕ) → coordinatesRight f ≡ true → Close (coordsOf f)
+unfolding coordinatesRight
+coordinates-close f e = near-close (coordsOf f) e

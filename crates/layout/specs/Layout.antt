@@ -1,0 +1,104 @@
+-- A mesh file: its header, its two parts, what they say, and refusals 1 to 4.
+-- f is the list of the file's bytes.
+-- Assumes nothing.
+use Prim.Native.Nat.{ℕ, _+_, _*_, _/_, _%_, _≤_}
+use mathlib.Core.Path.{_≡_}
+use mathlib.Core.List.{List, map}
+use mathlib.Core.Bool.{Bool, cond, _&&_}
+use lib.ListN.{length, drop}
+use lib.Dec.{leb, eqb}
+use lib.IntN.{ℤ}
+use Rattle.base.specs.Lists.{all, upTo}
+use Rattle.space.specs.Box.{near}
+use Rattle.space.specs.Mesh.{Mesh}
+use Rattle.space.specs.Arrays.{meshOf}
+use Rattle.layout.specs.Bytes.{u16At, u32At, i32At}
+use Rattle.layout.specs.declared.Headed.{Headed}
+use Rattle.layout.specs.declared.Headed.the-variants.{Sound, Length, Counts, Layout}
+
+-- ---- the header: vertices, their offset, tetrahedra, their offset, total length, zero
+
+abbrev pub vertices : List ℕ → ℕ
+vertices f = u32At f 0
+
+abbrev pub tets : List ℕ → ℕ
+tets f = u32At f 8
+
+-- not 1: from 24 to 26,648 bytes, as many as the header's total
+unfoldable pub lengthRight : List ℕ → Bool
+lengthRight f = leb 24 (length f) && leb (length f) 26648 && eqb (u32At f 16) (length f)
+
+-- not 2: at most 512 vertices and 2,048 tetrahedra
+unfoldable pub countsRight : List ℕ → Bool
+countsRight f = leb (vertices f) 512 && leb (tets f) 2048
+
+-- not 3: the offsets, the total and the zero are those of the counts
+unfoldable pub layoutRight : List ℕ → Bool
+layoutRight f =
+    eqb (u32At f 4) 24
+    && eqb (u32At f 12) (24 + 12 * vertices f)
+    && eqb (u32At f 16) (24 + 12 * vertices f + 10 * tets f)
+    && eqb (u32At f 20) 0
+
+-- what is answered of a header: the first of 1 to 3 that applies, or the counts
+unfoldable pub headed : List ℕ → Headed
+headed f =
+    cond (lengthRight f) (cond (countsRight f) (cond (layoutRight f) (Sound (vertices f) (tets f)) Layout) Counts) Length
+
+-- the number of that answer's refusal, and 0 for a header that is not refused
+abbrev pub headNumber : Headed → ℕ
+headNumber (Sound n t) = 0
+headNumber Length = 1
+headNumber Counts = 2
+headNumber Layout = 3
+
+-- what a header that is not refused tells: n vertices and t tetrahedra, which fill the file to its end
+pub record Framed (f : List ℕ) (n t : ℕ) : Type 0 where
+  pub vertex : n ≡ vertices f
+  pub tet : t ≡ tets f
+  pub fewVertices : n ≤ 512
+  pub fewTets : t ≤ 2048
+  pub whole : 24 + 12 * n + 10 * t ≡ length f
+
+-- ---- the vertex part: three signed numbers of 32 bits a vertex
+
+-- the vertex part
+abbrev pub vertexPart : List ℕ → List ℕ
+vertexPart f = drop 24 f
+
+-- the first k coordinates of a vertex part
+unfoldable pub coordsIn : List ℕ → ℕ → List ℤ
+coordsIn q k = map (λ i. i32At q (4 * i)) (upTo k)
+
+-- ---- the tetrahedron part: four vertex numbers and a part number of 16 bits each a tetrahedron
+
+-- the tetrahedron part, after n vertices
+abbrev pub tetPart : ℕ → List ℕ → List ℕ
+tetPart n f = drop (24 + 12 * n) f
+
+-- the first k vertex numbers of a tetrahedron part
+unfoldable pub labelsIn : List ℕ → ℕ → List ℕ
+labelsIn p k = map (λ x. u16At p (10 * (x / 4) + 2 * (x % 4))) (upTo k)
+
+-- the part numbers of its first k tetrahedra
+unfoldable pub partsIn : List ℕ → ℕ → List ℕ
+partsIn p k = map (λ j. u16At p (10 * j + 8)) (upTo k)
+
+-- ---- what the file says
+
+abbrev pub coordsOf : List ℕ → List ℤ
+coordsOf f = coordsIn (vertexPart f) (3 * vertices f)
+
+abbrev pub labelsOf : List ℕ → List ℕ
+labelsOf f = labelsIn (tetPart (vertices f) f) (4 * tets f)
+
+abbrev pub partsOf : List ℕ → List ℕ
+partsOf f = partsIn (tetPart (vertices f) f) (tets f)
+
+-- not 4: every coordinate in bounds
+unfoldable pub coordinatesRight : List ℕ → Bool
+coordinatesRight f = all near (coordsOf f)
+
+-- the mesh of the file
+abbrev pub decoded : List ℕ → Mesh
+decoded f = meshOf (coordsOf f) (labelsOf f) (partsOf f)

@@ -1,0 +1,60 @@
+-- A list of numbers as text, one number more at a time. Assumes nothing.
+use mathlib.Core.Path.{_≡_, refl, sym, _∙_, ap}
+use mathlib.Core.List.{List, [], _∷_, _++_, append-assoc, append-nil}
+use Prim.Native.Nat.{ℕ, zero, suc, _+_, _*_, _≤_, _<_}
+use native.Mathlib.Numerals.{add-one}
+use native.Mathlib.Omega.{arith}
+use Prim.Native.Nat.{min}
+use lib.ListN.{length, getD, take, drop, length-append, length-take}
+use Rattle.base.specs.Laid.{Laid}
+use Rattle.base.proofs.Lay.{laid-more}
+use lib.Seq.{take-suc, length-take-le}
+use Rattle.base.specs.Lists.{spread}
+use Rattle.lines.specs.Text.{decimal, spaced, numbers, cornersText, tetsText}
+use Rattle.lines.proofs.Digits.{decimal-length}
+
+pub spaced-length : (x : ℕ) → length (spaced x) ≤ 21
+unfolding spaced
+spaced-length x = omega (arith, decimal-length x)
+
+numbers-snoc : (xs : List ℕ) (x : ℕ) → numbers (xs ++ x ∷ []) ≡ numbers xs ++ spaced x
+unfolding numbers spread
+numbers-snoc [] x = append-nil (spaced x)
+numbers-snoc (y ∷ ys) x = ap (λ l. spaced y ++ l) (numbers-snoc ys x) ∙ sym (append-assoc (spaced y) (numbers ys) (spaced x))
+
+pub numbers-none : numbers [] ≡ []
+unfolding numbers spread
+numbers-none = refl
+
+pub numbers-more : (l : List ℕ) (i : ℕ) → i < length l → numbers (take (i + 1) l) ≡ numbers (take i l) ++ spaced (getD l i 0)
+numbers-more l i h = ap numbers (rw (add-one, take-suc l i 0)) ∙ numbers-snoc (take i l) (getD l i 0)
+
+pub numbers-length : (l : List ℕ) → length (numbers l) ≤ 21 * length l
+unfolding numbers spread
+numbers-length [] = omega arith
+numbers-length (x ∷ xs) = omega (arith, length-append (spaced x) (numbers xs), spaced-length x, numbers-length xs)
+
+pub part-length : (l : List ℕ) (i : ℕ) → i ≤ length l → length (numbers (take i l)) ≤ 21 * i
+part-length l i h = omega (arith, numbers-length (take i l), length-take-le i l h)
+
+pub most-length : (l : List ℕ) (k most : ℕ) → k ≤ most → length (numbers (take k l)) ≤ 21 * most
+most-length l k most h = omega (arith, numbers-length (take k l), length-take k l)
+
+pub corners-length : (r : List ℕ) → length (cornersText r) ≤ 188
+unfolding cornersText
+corners-length r =
+    omega (
+      arith,
+      length-append (decimal (getD r 0 0)) (numbers (take (min (getD r 0 0) 8) (drop 1 r))),
+      decimal-length (getD r 0 0),
+      most-length (drop 1 r) (min (getD r 0 0) 8) 8 (omega arith),
+    )
+
+pub tets-length : (r : List ℕ) → length (tetsText r) ≤ 527
+unfolding tetsText
+tets-length r = omega (arith, most-length (drop 10 r) (min (getD r 9 0) 25) 25 (omega arith))
+
+-- two texts, one behind the other
+module _ {from r s : ℕ} {xs ys zs old l m : List ℕ} (e : r ≡ from + length xs) (d : Laid from xs old l) where
+  pub behind : s ≡ r + length ys → Laid r ys l m → zs ≡ xs ++ ys → (s ≡ from + length zs) × Laid from zs old m
+  behind f g z = (omega (arith, ap length z, length-append xs ys), laid-more d r e g z)

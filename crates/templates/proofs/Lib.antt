@@ -1,0 +1,4 @@
+pub mod Tests
+pub mod Last
+pub mod Turns
+pub mod OneLeast
