@@ -6,18 +6,13 @@ use lib.ListN.{length, getD}
 use Rattle.base.specs.Lists.{upTo}
 use Rattle.space.specs.Arrays.{row4}
 use Rattle.templates.specs.Tables.{Template}
+use Rattle.templates.specs.Flat.{pairs}
 
--- row i of a table of twos, and of threes
-abbrev pub row2 : List ℕ → ℕ → List ℕ
-row2 xs i = getD xs (2 * i) 0 ∷ getD xs (2 * i + 1) 0 ∷ []
-
+-- row i of a table of threes
 abbrev pub row3 : List ℕ → ℕ → List ℕ
 row3 xs i = getD xs (3 * i) 0 ∷ getD xs (3 * i + 1) 0 ∷ getD xs (3 * i + 2) 0 ∷ []
 
 -- a table's rows
-abbrev pub pairs : List ℕ → List (List ℕ)
-pairs xs = map (row2 xs) (upTo (length xs / 2))
-
 abbrev pub threes : List ℕ → List (List ℕ)
 threes xs = map (row3 xs) (upTo (length xs / 3))
 

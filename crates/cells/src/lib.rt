@@ -4,56 +4,33 @@ ghost use mathlib.Core.Path.{_≡_};
 ghost use mathlib.Core.List.{[], _∷_};
 ghost use Prim.Native.Nat.{_/_, _<_};
 ghost use lib.Dec.{ltb};
-ghost use lib.ListN.{length, getD};
-ghost use Rattle.base.specs.Lists.{all, isIn, distinct};
+ghost use lib.ListN.{length};
+ghost use Rattle.base.specs.Lists.{all};
 ghost use Rattle.space.specs.Box.{isAbove0};
 ghost use Rattle.space.specs.Mesh.{together};
 ghost use Rattle.space.specs.Arrays.{row4, meshOf, Close};
 ghost use Rattle.around.specs.Index.{Indexed};
 ghost use Rattle.templates.specs.Tables.{at};
+ghost use Rattle.templates.specs.Flat.{pairAt};
 ghost use Rattle.cells.specs.Cells.{boxAt, isTuple, hasEdges, isFacet, isSplit, hasFaces, isSound};
-ghost use Rattle.cells.specs.Rows.{row2, row3, threes, fours, tabled, quadsOf};
+ghost use Rattle.cells.specs.Rows.{row3, threes, fours, tabled, quadsOf};
 use around::together2;
 use around::together3;
 use space::Vertex;
 use space::point_at;
 use space::volume;
+use templates::all_distinct;
+use templates::corner;
 
 // ---- the vertices of a tuple
-
-// The vertex at a corner; 0 past the end.
-fn corner(c: &[u16], k: u8) -> Vertex
-    ensures { λ r. ⌜ r .0 ≡ getD (now (c .entry)) k 0 ⌝ }
-{
-    let at = k as usize;
-    if at < c.len() {
-        Vertex(c[at])
-    } else {
-        Vertex(0)
-    }
-}
-
-pub fn is_in(v: Vertex, xs: &[u16]) -> bool
-    ensures { λ r. ⌜ r ≡ isIn (v .0) (now (xs .entry)) ⌝ }
-{
-    let x = v.0;
-    let mut i = 0;
-    while i < xs.len() {
-        if x == xs[i] {
-            return true;
-        }
-        i += 1;
-    }
-    false
-}
 
 // The vertices at row i of a table.
 pub fn corners2(c: &[u16], rows: &[u8], i: usize) -> [u16; 2]
     requires { ⌜ i < length (now rows) / 2 ⌝ }
-    ensures { λ r. ⌜ r ≡ at (now (c .entry)) (row2 (now (rows .entry)) i) ⌝ }
+    ensures { λ r. ⌜ r ≡ at (now (c .entry)) (pairAt (now (rows .entry)) i) ⌝ }
 {
     let at = 2 * i;
-    [corner(c, rows[at]).0, corner(c, rows[at + 1]).0]
+    [corner(c, rows[at]), corner(c, rows[at + 1])]
 }
 
 pub fn corners3(c: &[u16], rows: &[u8], i: usize) -> [u16; 3]
@@ -62,9 +39,9 @@ pub fn corners3(c: &[u16], rows: &[u8], i: usize) -> [u16; 3]
 {
     let at = 3 * i;
     [
-        corner(c, rows[at]).0,
-        corner(c, rows[at + 1]).0,
-        corner(c, rows[at + 2]).0,
+        corner(c, rows[at]),
+        corner(c, rows[at + 1]),
+        corner(c, rows[at + 2]),
     ]
 }
 
@@ -74,10 +51,10 @@ pub fn corners4(c: &[u16], rows: &[u8], i: usize) -> [u16; 4]
 {
     let at = 4 * i;
     [
-        corner(c, rows[at]).0,
-        corner(c, rows[at + 1]).0,
-        corner(c, rows[at + 2]).0,
-        corner(c, rows[at + 3]).0,
+        corner(c, rows[at]),
+        corner(c, rows[at + 1]),
+        corner(c, rows[at + 2]),
+        corner(c, rows[at + 3]),
     ]
 }
 
@@ -89,19 +66,6 @@ fn all_below(c: &[u16], n: usize) -> bool
     let mut i = 0;
     while i < c.len() {
         if n <= c[i] as usize {
-            return false;
-        }
-        i += 1;
-    }
-    true
-}
-
-fn all_distinct(c: &[u16]) -> bool
-    ensures { λ r. ⌜ r ≡ distinct (now (c .entry)) ⌝ }
-{
-    let mut i = 0;
-    while i < c.len() {
-        if is_in(Vertex(c[i]), &c[i + 1..]) {
             return false;
         }
         i += 1;
@@ -136,7 +100,7 @@ fn edge(
 ) -> bool
     requires { ⌜ Indexed (now labels) n (now offsets) (now entries) ⌝ }
     requires { ⌜ i < length (now rows) / 2 ⌝ }
-    ensures { λ r. ⌜ r ≡ together (meshOf [] (now (labels .entry)) []) (at (now (c .entry)) (row2 (now (rows .entry)) i)) ⌝ }
+    ensures { λ r. ⌜ r ≡ together (meshOf [] (now (labels .entry)) []) (at (now (c .entry)) (pairAt (now (rows .entry)) i)) ⌝ }
 {
     let e = corners2(c, rows, i);
     together2(labels, n, offsets, entries, Vertex(e[0]), Vertex(e[1]))

@@ -7,7 +7,7 @@ use borrow.Author.Tests.{not-true, not-false}
 use Rattle.space.specs.Arrays.{meshOf}
 use Rattle.space.specs.Mesh.{together}
 use Rattle.templates.specs.Tables.{at}
-use Rattle.cells.specs.Rows.{row2}
+use Rattle.templates.specs.Flat.{pairAt}
 use Rattle.cells.specs.Cells.{hasEdges}
 use Rattle.base.proofs.Loop.{AllUp, all-start, all-next, all-fails, all-done}
 use native.Mathlib.Omega.{arith}
@@ -15,7 +15,7 @@ use Rattle.cells.proofs.has_edges.Statement.{statement}
 use Rattle.cells.proofs.has_edges.Tie as tie
 
 abbrev Inv-loop : tie.InvT-loop
-Inv-loop labels n offsets entries c edges k i₀ i = (k ≡ length edges / 2) × AllUp (λ e. together (meshOf [] labels []) (at c e)) (row2 edges) k i
+Inv-loop labels n offsets entries c edges k i₀ i = (k ≡ length edges / 2) × AllUp (λ e. together (meshOf [] labels []) (at c e)) (pairAt edges) k i
 
 abbrev μ-loop : tie.MeasureT-loop
 μ-loop labels n offsets entries c edges k i₀ i = k - i
