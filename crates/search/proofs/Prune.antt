@@ -11,7 +11,7 @@ use lib.IntN.{ℤ}
 use lib.ListN.{length, getD, take}
 use Rattle.base.specs.Lists.{all, any, from, upTo, isIn}
 use Rattle.base.proofs.Lists.{both-left, both-right, all-at, all-from}
-use Rattle.base.proofs.Loop.{getD-up, length-up}
+use Rattle.base.proofs.Loop.{getD-up, listed}
 use Rattle.base.proofs.Members.{from-at}
 use Rattle.base.proofs.Runs.{any-map}
 use Rattle.space.specs.Mesh.{Mesh, together, holds}
@@ -45,6 +45,23 @@ take-run : (f : ℕ → ℕ) (i k d : ℕ) → d ≤ k → take d (map f (from i
 take-run f i k zero h = refl
 take-run f i zero (suc d) h = absurd (omega arith)
 take-run f i (suc k) (suc d) h = ap (λ l. f i ∷ l) (take-run f (suc i) k d (omega arith))
+
+-- ── the test of a new vertex, as the code makes it ──
+
+pub take-front : (d : ℕ) (s : List ℕ) → d ≤ length s → take d s ≡ front d s
+take-front d s h = ap (take d) (sym (listed 0 s)) ∙ take-run (λ i. getD s i 0) 0 (length s) d h
+
+module _ (x d : ℕ) (s : List ℕ) (h : d ≤ length s) {r : Bool} (e : r ≡ isIn (getD s d 0) (take d s)) where
+  found : r ≡ isIn (getD s d 0) (front d s)
+  found = e ∙ ap (isIn (getD s d 0)) (take-front d s h)
+
+  pub comes-not : r ≡ true → false ≡ comesAfter x d s
+  unfolding comesAfter
+  comes-not t = rw (sym found ∙ t)
+
+  pub comes-new : {q : Bool} → r ≡ false → q ≡ all (λ k. ltb (getD s k 0) (getD s d 0)) (upTo (getD lesser x 0)) → q ≡ comesAfter x d s
+  unfolding comesAfter
+  comes-new {q} t a = a ∙ rw (sym found ∙ t)
 
 pub places-of : (k : ℕ) → length (templateOf k .search) ≡ templateOf k .corners
 places-of k = go (eqb k 8) (eqb k 6)

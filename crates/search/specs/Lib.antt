@@ -1,3 +1,4 @@
 pub mod Leaf
 pub mod Levels
 pub mod Prune
+pub mod Ready
