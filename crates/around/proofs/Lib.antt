@@ -1,1 +1,4 @@
 pub mod Around
+pub mod Places
+pub mod Rows
+pub mod Once

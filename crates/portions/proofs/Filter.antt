@@ -1,15 +1,15 @@
 -- The calls of the search from a mark before all that passes give the filter of all tuples in order.
 -- Assumes nothing.
-use mathlib.Core.Path.{_≡_, refl, sym, _∙_, ap, subst}
+use mathlib.Core.Path.{_≡_, refl, sym, _∙_, subst}
 use mathlib.Core.Bool.{Bool, true, false, cond, true≢false}
-use mathlib.Core.Logic.{_⊎_, inl, inr, ⊎-elim}
+use mathlib.Core.Logic.{_⊎_, inl, inr}
 use mathlib.Core.List.{List, [], _∷_, _++_, map}
-use Prim.Native.Nat.{ℕ, zero, suc, _≤_, _<_, _+_}
+use Prim.Native.Nat.{ℕ, zero, suc, _<_, _+_}
 use native.Mathlib.Omega.{arith}
 use native.Mathlib.Decide.{decLt}
 use lib.ListN.{getD}
 use Rattle.base.specs.Lists.{keep}
-use Rattle.portions.specs.Tuples.{Agree, Lt, Le, LeastAfter, stack, tuples}
+use Rattle.portions.specs.Tuples.{Agree, Lt, stack, tuples}
 use Rattle.portions.proofs.Search.{Laws}
 use Rattle.portions.proofs.Calls.{Rising, All, Some, Same, Full, Listed, listed-full, full-unique}
 

@@ -1,22 +1,22 @@
 -- How firm the promise of a portion is: it leaves one outcome, a record tells its cell, a mark cuts the list in two, and what does not keep it.
 -- Assumes nothing.
-use Prim.Native.Nat.{ℕ, zero, suc, _+_, _*_, _/_, _<_, _≤_}
+use Prim.Native.Nat.{ℕ, _+_, _*_, _/_, _<_, _≤_}
 use mathlib.Core.Path.{_≡_, refl, sym, _∙_, ap, ap₂, subst}
 use mathlib.Core.Bool.{Bool, true, false, not, cond, true≢false}
 use mathlib.Core.List.{List, [], _∷_, _++_, List·Memᴰ, List·Memᴰ·head, List·Memᴰ·tail}
-use lib.Dec.{leb}
-use lib.ListN.{length, take, drop, replicate, length-take, length-replicate, length-append}
+use lib.ListN.{length, take, replicate, length-take, length-replicate, length-append}
 use lib.Seq.{take-at, drop-at}
 use native.Mathlib.Omega.{arith}
+use native.Mathlib.Decide.{decLt}
 use native.Mathlib.Nat.{le-div-iff-mul-le, mul-div-cancel, one-mul}
-use borrow.Author.Tests.{le-ltb, lt-leb, le-leb}
 use Rattle.base.specs.Lists.{all, keep, spread}
-use Rattle.base.proofs.Lists.{both-left, both-right, all-at}
-use Rattle.base.proofs.Members.{keep-at, keep-all, all-left}
-use Rattle.portions.specs.Portions.{before, rises, Rule, Answer, refused, given, reply, isAfter, after, records, portion, portionOf, lastMark, Lawful, Telling, readBack}
-use Rattle.portions.specs.Run.{Outcome, Call, read, Calls, Promise}
+use Rattle.base.proofs.Lists.{both-left, both-right, all-at, all-from}
+use Rattle.base.proofs.Members.{keep-at, keep-all, keep-none}
+use Rattle.portions.specs.Portions.{before, rises, Rule, Answer, refused, given, isAfter, after, records, Lawful, Telling, readBack}
+use Rattle.portions.specs.Run.{Outcome, Call, read, Calls}
 use Rattle.portions.proofs.Order.{before-trans}
 use Rattle.portions.proofs.Portions.{sized, cellsIn, call}
+use Rattle.portions.proofs.Loop.{portion-short}
 use Rattle.portions.proofs.Run.{calls, ends, answers}
 
 -- ── one outcome ──
@@ -42,15 +42,10 @@ module _ {A : Type 0} (p : A → Bool) (b : A → A → Bool) (up : (x y : A) �
   cut-two (x ∷ xs) e = go (p x) refl (cut-two xs (both-right (all (b x) xs) _ e))
     where
       go : (t : Bool) → p x ≡ t → xs ≡ keep (λ x. not (p x)) xs ++ keep p xs → x ∷ xs ≡ cond (not t) (x ∷ keep (λ x. not (p x)) xs) (keep (λ x. not (p x)) xs) ++ cond t (x ∷ keep p xs) (keep p xs)
-      go true t r = sym (ap₂ (λ l m. l ++ (x ∷ m)) (none xs (λ y h. up x y t (all-at (b x) xs (both-left (all (b x) xs) _ e) h))) (keep-all p xs (every xs (λ y h. up x y t (all-at (b x) xs (both-left (all (b x) xs) _ e) h)))))
+      go true t r = sym (ap₂ (λ l m. l ++ (x ∷ m)) (keep-none (λ x. not (p x)) xs (λ y h. ap not (later y h))) (keep-all p xs (all-from p xs later)))
         where
-          none : (ys : List A) → ((y : A) → List·Memᴰ y ys → p y ≡ true) → keep (λ x. not (p x)) ys ≡ []
-          none [] f = refl
-          none (y ∷ ys) f = rw (f y (List·Memᴰ·head refl)) (none ys (λ z h. f z (List·Memᴰ·tail h)))
-
-          every : (ys : List A) → ((y : A) → List·Memᴰ y ys → p y ≡ true) → all p ys ≡ true
-          every [] f = refl
-          every (y ∷ ys) f = rw (f y (List·Memᴰ·head refl)) (every ys (λ z h. f z (List·Memᴰ·tail h)))
+          later : (y : A) → List·Memᴰ y xs → p y ≡ true
+          later y h = up x y t (all-at (b x) xs (both-left (all (b x) xs) _ e) h)
       go false t r = ap (λ l. x ∷ l) r
 
 module _ {A : Type 0} (rule : Rule A) (full : List A) (law : Lawful rule full) where
@@ -96,6 +91,16 @@ module _ {A : Type 0} (rule : Rule A) (full : List A) (law : Lawful rule full) w
         let p = calls rule full law r in
         ap (readBack rule (tell .cellOf) (length (after rule full k))) (p .complete refl)
         ∙ read-back (after rule full k) (λ c h. keep-at (isAfter rule k) full h .0) (p .fit refl)
+
+  -- an answer that is no refusal is one of a call with room for a record
+  pub outcome-call : {k room : List ℕ} {n : ℕ} {none : Bool} {k′ left : List ℕ} → Outcome rule full k room (given n none k′) left → Call rule full k room n none k′ left
+  outcome-call {k} {room} {n} {none} {k′} o =
+      elim (decLt (length room) (rule .size)) [
+        | yes h ↦
+            let e : given n none k′ ≡ refused 11 = o .answered ∙ ap (λ p. p .answer) (portion-short rule full law k (length room) h) in
+            absurd (true≢false (let v : true ≡ false = cc in v))
+        | no h ↦ record { wide = omega arith; outcome = o }
+      ]
 
   -- ── what does not keep the promise ──
 

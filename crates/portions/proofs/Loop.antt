@@ -5,8 +5,8 @@ use mathlib.Core.Path.{_≡_, refl, sym, _∙_, ap, ap₂, subst}
 use mathlib.Core.Logic.{⊎-elim}
 use mathlib.Core.Bool.{Bool, true, false, true≢false}
 use mathlib.Core.List.{List, [], _∷_, _++_, append-assoc, append-nil, List·Memᴰ, List·Memᴰ·head, List·Memᴰ·cases-cons, List·Memᴰ·not-nil, nil≢cons, head-eq-of-cons-eq}
-use lib.ListN.{length, take, drop, length-append, length-drop}
-use lib.Seq.{take-all, take-at, take-append-add, take-append-seam, drop-append-add, drop-drop, sets, sets-eq}
+use lib.ListN.{length, take, length-append}
+use lib.Seq.{take-all, take-at, take-append-add}
 use native.Mathlib.Omega.{arith}
 use native.Mathlib.Nat.{suc-mul, zero-add, le-div-iff-mul-le}
 use borrow.Author.Tests.{lt-ltb, le-ltb, le-leb, lt-leb}

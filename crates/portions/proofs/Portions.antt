@@ -1,22 +1,22 @@
--- What one portion gives, and what calls one after the other give, over any rule of cells.
+-- What one portion gives, over any rule of cells: what comes after its marks, what it writes, how many, and what the caller reads.
 -- Assumes nothing.
-use Prim.Native.Nat.{ℕ, suc, _+_, _*_, _/_, _<_, _≤_, max}
+use Prim.Native.Nat.{ℕ, _+_, _*_, _/_, _<_, _≤_}
 use mathlib.Core.Path.{_≡_, refl, sym, _∙_, ap, ap₂, subst}
 use mathlib.Core.Bool.{Bool, true, false, cond, true≢false}
 use mathlib.Core.List.{List, [], _∷_, _++_, append-assoc, append-nil, List·Memᴰ, List·Memᴰ·head, List·Memᴰ·tail, Memᴰ·append-left}
 use lib.Dec.{leb, ltb}
 use lib.ListN.{length, take, drop, length-append, length-take, length-drop, take-append-drop}
-use lib.Seq.{take-all, take-at, take-nil}
+use lib.Seq.{take-all, take-at}
 use native.Mathlib.Omega.{arith}
 use native.Mathlib.Nat.{le-div-iff-mul-le, one-mul, suc-mul, add-comm}
-use borrow.Author.Tests.{leb-true, leb-false, le-ltb, le-leb}
+use borrow.Author.Tests.{leb-true, leb-false, le-ltb}
 use Rattle.base.specs.Lists.{all, keep, spread, leading}
 use Rattle.portions.specs.Portions.{rises, Rule, refused, given, reply, isAfter, after, records, lastMark, portionOf, portion, Lawful}
 use Rattle.portions.specs.Run.{Outcome, Call, read}
 use Rattle.base.specs.Laid.{lay}
 use Rattle.base.proofs.Lay.{lay-front, length-lay}
-use Rattle.base.proofs.Lists.{both-left, both-right, all-at}
-use Rattle.base.proofs.Members.{keep-at, keep-keep, keep-all, all-left, all-right, all-both, leading-in, leading-all, leading-short}
+use Rattle.base.proofs.Lists.{both-left, both-right}
+use Rattle.base.proofs.Members.{keep-at, keep-keep, keep-all, leading-in, leading-all, leading-short}
 use Rattle.portions.proofs.Order.{before-irrefl, before-trans, keep-rises}
 
 module _ {A : Type 0} (rule : Rule A) where

@@ -2,16 +2,17 @@
 -- Assumes nothing.
 use Prim.Native.Nat.{ℕ, zero, suc, _+_, _<_, _≤_}
 use mathlib.Core.Path.{_≡_, refl, sym, _∙_, ap, ap₂, subst}
-use mathlib.Core.Logic.{_⊎_, inl, inr}
+use mathlib.Core.Logic.{_⊎_, inl, inr, ⊎-elim}
 use mathlib.Core.Bool.{Bool, true, false, true≢false}
-use mathlib.Core.List.{List, [], _∷_, map}
+use mathlib.Core.List.{List, _∷_, map, List·Memᴰ, List·Memᴰ·not-nil, List·Memᴰ·append-cases, List·Memᴰ·eq-of-singleton}
 use lib.ListN.{length, getD}
 use native.Mathlib.Omega.{arith}
 use native.Mathlib.Decide.{decLt}
-use Rattle.base.specs.Lists.{from, upTo}
-use Rattle.portions.specs.Portions.{before}
-use Rattle.portions.specs.Tuples.{Agree, Lt, Le, front}
-use Rattle.portions.proofs.Order.{before-less, before-same, before-cases}
+use Rattle.base.specs.Lists.{from}
+use Rattle.base.proofs.Members.{map-at}
+use Rattle.portions.specs.Portions.{before, rises}
+use Rattle.portions.specs.Tuples.{Agree, Lt, Le, LeastAfter, front, stack, tuples}
+use Rattle.portions.proofs.Order.{before-less, before-same, before-cases, rises-append, rises-map, rises-so}
 
 -- ── the order is an order ──
 
@@ -117,3 +118,42 @@ module _ (s t : List ℕ) where
 
   pub agree-at : (k : ℕ) → Agree k s t → front k s ≡ front k t
   agree-at k f = agree-from k 0 (λ j h. f j (omega arith))
+
+-- a search for what passes one test is a search for what passes another that is the same at every tuple
+pub least-same : {k : ℕ} {p q : List ℕ → Bool} {v : List ℕ} {found : Bool} {r : List ℕ} → ((s : List ℕ) → p s ≡ q s) → LeastAfter k p v found r → LeastAfter k q v found r
+least-same {r = r} e a = record {
+  holds = λ f. sym (e r) ∙ a .holds f;
+  after = a .after;
+  least = λ f s h. a .least f s (e s ∙ h);
+  none = λ f s h. a .none f s (e s ∙ h);
+}
+
+-- ── every tuple, in order ──
+
+stack-at : (c : ℕ) (ts : List (List ℕ)) {x : List ℕ} → List·Memᴰ x (stack c ts) → (v : ℕ) × (t : List ℕ) × (v < c) × List·Memᴰ t ts × (x ≡ v ∷ t)
+unfolding stack
+stack-at zero ts h = absurd (List·Memᴰ·not-nil h)
+stack-at (suc c) ts h =
+    ⊎-elim (λ g. let r = stack-at c ts g in (r .0, r .1, omega (arith, r .2), r .3, r .4)) (λ g. let r = map-at (λ (t : List ℕ). c ∷ t) ts g in (c, r .0, omega arith, r .1, r .2))
+    (List·Memᴰ·append-cases (stack c ts) h)
+
+stack-rises : (c : ℕ) (ts : List (List ℕ)) → rises before ts ≡ true → rises before (stack c ts) ≡ true
+unfolding stack rises
+stack-rises zero ts e = refl
+stack-rises (suc c) ts e =
+    rises-append before (stack c ts) (map (λ (t : List ℕ). c ∷ t) ts) (stack-rises c ts e)
+    (rises-map before (λ (t : List ℕ). c ∷ t) ts ∙ rises-so before (λ x y. before (c ∷ x) (c ∷ y)) ts (λ x y g h q. before-same c x y ∙ q) e)
+    (λ x y g h.
+    let a = stack-at c ts g in
+    let b = map-at (λ (t : List ℕ). c ∷ t) ts h in
+    ap₂ before (a .4) (b .2) ∙ before-less (a .0) c (a .1) (b .0) (a .2))
+
+pub tuples-rise : (n k : ℕ) → rises before (tuples n k) ≡ true
+unfolding tuples rises
+tuples-rise n zero = refl
+tuples-rise n (suc k) = stack-rises n (tuples n k) (tuples-rise n k)
+
+pub tuples-long : (n k : ℕ) {x : List ℕ} → List·Memᴰ x (tuples n k) → length x ≡ k
+unfolding tuples
+tuples-long n zero h = ap length (List·Memᴰ·eq-of-singleton h)
+tuples-long n (suc k) h = let r = stack-at n (tuples n k) h in ap length (r .4) ∙ ap suc (tuples-long n k (r .3))

@@ -1,1 +1,2 @@
 pub mod Trial
+pub mod Quads

@@ -1,4 +1,5 @@
--- The trial's rule keeps to the laws.
+-- The trial's rule keeps to the laws, so demand 3 holds of it.
+-- Assumes nothing.
 use Prim.Native.Nat.{ℕ, _%_, _<_, _≤_}
 use mathlib.Core.Path.{_≡_, refl, sym}
 use mathlib.Core.Logic.{inl, inr, ⊎-elim}
@@ -9,11 +10,13 @@ use native.Mathlib.Omega.{arith}
 use native.Mathlib.Decide.{decLt}
 use borrow.Author.Tests.{ltb-true, eqb-true}
 use Rattle.base.specs.Lists.{upTo}
-use Rattle.portions.specs.Portions.{before, isAfter, after, Lawful}
-use Rattle.portions.specs.Steps.{Next}
 use Rattle.base.proofs.Lists.{all-from}
-use Rattle.portions.proofs.Order.{before-less, before-cases, keep-rises, rises-so, from-rises}
 use Rattle.base.proofs.Members.{keep-at, keep-has, keep-all, keep-none, from-at, from-has}
+use Rattle.portions.specs.Portions.{before, isAfter, after, Lawful}
+use Rattle.portions.specs.Run.{Demand3}
+use Rattle.portions.specs.Steps.{Next}
+use Rattle.portions.proofs.Order.{before-less, before-cases, keep-rises, rises-so, from-rises}
+use Rattle.portions.proofs.Run.{demand3}
 use Rattle.trial.specs.Trial.{trialRule, isTrial, trials}
 
 module _ (n : ℕ) (small : n ≤ 65535) where
@@ -49,6 +52,11 @@ module _ (n : ℕ) (small : n ≤ 65535) where
       ends : (c : ℕ) → c < n → (b : Bool) → isAfter trialRule (65535 ∷ []) c ≡ b → b ≡ false
       ends c h true e = absurd (let z : ⊥ = omega (arith, of-after 65535 c e) in z)
       ends c h false e = refl
+
+  pub trials-demand3 : Demand3 trialRule (trials n)
+  trials-demand3 = demand3 trialRule (trials n) lawful
+
+  -- ── the next cell ──
 
   pub next-yes : (k c : ℕ) → k < c → c < n → isTrial c ≡ true → ((d : ℕ) → k < d → d < c → isTrial d ≡ true → ⊥) → Next trialRule (trials n) (k ∷ []) true c
   next-yes k c h l e f = record {

@@ -1,6 +1,6 @@
 -- The loop's cells so far are those of `Come`, and the room holds their records.
 use Prim.Native.Nat.{ℕ, _-_, _/_, _<_, _≤_}
-use mathlib.Core.Path.{_≡_, sym, ap, _∙_}
+use mathlib.Core.Path.{ap}
 use mathlib.Core.Bool.{not}
 use mathlib.Core.List.{[], _∷_}
 use lib.ListN.{length}
@@ -9,7 +9,7 @@ use borrow.Author.Tests.{not-true, not-false, ne-eqb, eq-eqb}
 use borrow.Author.Needs.{needs}
 use Rattle.portions.specs.Portions.{Lawful}
 use Rattle.portions.specs.Steps.{Come}
-use Rattle.portions.proofs.Loop.{outcome-short, come-start, come-most, come-room, come-step, outcome-none, outcome-full, outcome-long}
+use Rattle.portions.proofs.Loop.{outcome-short, come-start, come-most, come-step, outcome-none, outcome-full, outcome-long}
 use Rattle.trial.specs.Trial.{trialRule, trials}
 use Rattle.trial.proofs.Trial.{lawful}
 use Rattle.trial.proofs.portion.Statement.{statement}
@@ -29,7 +29,7 @@ law : (n : ℕ) → n ≤ 65535 → Lawful trialRule (trials n)
 law n h = lawful n h
 
 returns : tie.Need-returns Inv-loop μ-loop
-returns c = outcome-short trialRule (trials _) (law _ (omega arith)) _ _ (c .if1 .taken)
+returns c = outcome-short trialRule (trials _) (law _ (omega arith)) _ _ (omega arith)
 
 loop-holds : tie.Need-loop-holds Inv-loop μ-loop
 loop-holds c = come-start trialRule (trials _) (law _ (omega arith)) _ _
@@ -41,13 +41,13 @@ same-length : tie.Need-same-length Inv-loop μ-loop
 same-length c = c .before .before .before .loop .inv .laid .same
 
 returns-2 : tie.Need-returns-2 Inv-loop μ-loop
-returns-2 c = outcome-none trialRule (trials _) (law _ (omega arith)) (c .before .before .before .loop .inv) (c .before .before .before .before .if1 .left) (c .before .before .next .ensures) (not-true _ (c .if2 .taken))
+returns-2 c = outcome-none trialRule (trials _) (law _ (omega arith)) (c .before .before .before .loop .inv) (omega arith) (c .before .before .next .ensures) (not-true _ (c .if2 .taken))
 
 same-length-2 : tie.Need-same-length-2 Inv-loop μ-loop
 same-length-2 c = c .before .before .before .before .loop .inv .laid .same
 
 returns-3 : tie.Need-returns-3 Inv-loop μ-loop
-returns-3 c = outcome-full trialRule (trials _) (law _ (omega arith)) (c .before .before .before .before .loop .inv) (c .before .before .before .before .before .if1 .left) (c .before .before .before .next .ensures) (not-false _ (c .before .if2 .left)) (c .if3 .taken)
+returns-3 c = outcome-full trialRule (trials _) (law _ (omega arith)) (c .before .before .before .before .loop .inv) (omega arith) (c .before .before .before .next .ensures) (not-false _ (c .before .if2 .left)) (c .if3 .taken)
 
 same-length-3 : tie.Need-same-length-3 Inv-loop μ-loop
 same-length-3 c = c .before .before .before .before .before .loop .inv .laid .same
@@ -55,7 +55,7 @@ same-length-3 c = c .before .before .before .before .before .loop .inv .laid .sa
 returns-4 : tie.Need-returns-4 Inv-loop μ-loop
 returns-4 c =
     let l = c .before .before .before .before .before .loop in
-    outcome-long trialRule (trials _) (law _ (omega arith)) (l .inv) (c .before .before .before .before .before .before .if1 .left) (c .before .before .before .before .next .ensures) (not-false _ (c .before .before .if2 .left))
+    outcome-long trialRule (trials _) (law _ (omega arith)) (l .inv) (omega arith) (c .before .before .before .before .next .ensures) (not-false _ (c .before .before .if2 .left))
     (omega (arith, come-most trialRule (trials _) (law _ (omega arith)) (l .inv), c .before .if3 .left))
     (ap not (eq-eqb _ 40 (c .if4 .taken)))
 

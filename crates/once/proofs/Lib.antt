@@ -1,0 +1,6 @@
+pub mod Turned
+pub mod Mirror
+pub mod Grow
+pub mod Once
+pub mod Search
+pub mod Worked

@@ -1,0 +1,5 @@
+pub mod Grow
+pub mod OneKind
+pub mod Full
+pub mod Next
+pub mod Rows

@@ -1,0 +1,76 @@
+-- The rule of hexahedra, prisms and pyramids: marks, keys, records, and what a search of one kind looks for.
+-- Assumes nothing.
+use Prim.Native.Nat.{ℕ, _-_, _<_}
+use mathlib.Core.Path.{_≡_}
+use mathlib.Core.Bool.{Bool, true, false, _&&_, _||_}
+use mathlib.Core.List.{List, [], _∷_, _++_}
+use lib.Dec.{eqb, ltb, leb}
+use lib.ListN.{length, getD, take, drop, replicate}
+use Rattle.base.specs.Lists.{pad}
+use Rattle.space.specs.Mesh.{Mesh}
+use Rattle.templates.specs.Tables.{Place, Template, templateOf, at}
+use Rattle.templates.specs.Least.{isLeast}
+use Rattle.cells.specs.Cells.{isCell, numbersOf}
+use Rattle.cells.specs.Full.{Cell, cell, allowed}
+use Rattle.portions.specs.Portions.{before, Rule}
+use Rattle.portions.specs.Tuples.{Agree, LeastAfter}
+
+-- ── marks: a kind number and eight numbers in letter order ──
+
+-- the key of a mark: kinds fall, so it is 65,535 less the kind; then the numbers in the kind's search order, and none beyond its corners
+unfoldable pub key : List ℕ → List ℕ
+key [] = []
+key (k ∷ vs) = (65535 - k) ∷ at vs (templateOf k .order)
+
+-- the same in words: the cell has a smaller kind than the mark, or its kind and a greater tuple in search order
+unfoldable pub comesAfter : ℕ → List ℕ → Cell → Bool
+comesAfter k vs c =
+    let o = templateOf (c .kind) .order in
+    ltb (c .kind) k || (eqb (c .kind) k && before (at vs o) (at (c .corners) o))
+
+-- ── records ──
+
+-- the 35 entries of a cell that has at most 25 tetrahedra
+unfoldable pub entries : Cell → List ℕ
+entries c = (c .kind ∷ pad 8 65535 (c .corners)) ++ (length (c .tets) ∷ pad 25 65535 (c .tets))
+
+-- the cell that entries tell
+unfoldable pub cellOf : List ℕ → Cell
+cellOf xs =
+    let k = getD xs 0 0 in
+    let tail = drop 9 xs in
+    cell k (take (templateOf k .corners) (drop 1 xs)) (take (getD tail 0 0) (drop 1 tail))
+
+abbrev pub tetRule : Rule Cell
+tetRule = record {
+  mark = λ c. c .kind ∷ pad 8 0 (c .corners);
+  key = key;
+  start = 65535 ∷ pad 8 0 [];
+  end = 0 ∷ pad 8 0 [];
+  size = 35;
+  entries = entries;
+  fits = λ c. leb (length (c .tets)) 25;
+}
+
+-- ── the search of one kind; a tuple's entries are in search order, and of a list the first count ──
+
+-- the tuple is in least form, and it is a cell
+unfoldable pub isLeaf : Mesh → Template → List ℕ → Bool
+isLeaf m t s = isLeast t (at s (t .places)) && isCell m t (at s (t .places))
+
+-- the same place by place: the vertices u come after s, one at each place, and each is below n and may come there
+unfoldable pub goesOn : ℕ → List Place → List ℕ → List ℕ → Bool
+goesOn n [] s [] = true
+goesOn n [] s (v ∷ u) = false
+goesOn n (p ∷ ps) s [] = false
+goesOn n (p ∷ ps) s (v ∷ u) = let r = goesOn n ps (s ++ (v ∷ [])) u in ltb v n && (allowed p s v && r)
+
+-- the cell that a tuple makes
+unfoldable pub cellAt : Mesh → Template → List ℕ → Cell
+cellAt m t s = cell (t .kind) (at s (t .places)) (numbersOf m t (at s (t .places)))
+
+-- the search of one kind for the mark of kind a with the numbers vs: none for a kind above the mark's, from vs on for its kind, and all of a kind below
+pub data Searched (m : Mesh) (t : Template) (a : ℕ) (vs : List ℕ) : Bool → List ℕ → Type 0 where
+  past : {r : List ℕ} → a < t .kind → Searched m t a vs false r
+  within : {found : Bool} {r : List ℕ} (v : List ℕ) → a ≡ t .kind → Agree (t .corners) v (at vs (t .order)) → LeastAfter (t .corners) (isLeaf m t) v found r → Searched m t a vs found r
+  whole : {found : Bool} {r : List ℕ} → t .kind < a → LeastAfter (t .corners) (isLeaf m t) (replicate 8 0) found r → Searched m t a vs found r

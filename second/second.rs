@@ -1,0 +1,87 @@
+// An independent lister of the cells of a mesh, and the comparison with it.
+//
+//   second list < MESH            prints what the program prints
+//   second portion KIND A B C D E F G H K < MESH
+//                                 at most K cells after the mark, then the end or the mark reached
+//   second make FAMILY NUMBER [SEED]
+//                                 writes one mesh of a family to standard output
+//   second compare --ask ASK [--program PROGRAM] [--seed N] [--scale K] [--only FAMILY] [--save DIR]
+//                                 asks the library (through ASK) and the program the same questions
+//   second families, second slips prints their names
+//
+// Plain Rust, one call of rustc, nothing but std. It shares nothing with the library: no code, no
+// table and no way of searching.
+mod cells;
+mod compare;
+mod families;
+mod make;
+mod mesh;
+mod portion;
+mod slips;
+
+use compare::{stop, Comparison, Plan};
+use std::io::{Read, Write};
+
+fn number<T: std::str::FromStr>(word: &str) -> T {
+    word.parse().unwrap_or_else(|_| stop(&format!("not a number that fits: {}", word)))
+}
+
+fn print(bytes: &[u8]) {
+    if std::io::stdout().write_all(bytes).is_err() {
+        stop("the output could not be written");
+    }
+}
+
+fn answer(mark: [u16; 9], most: usize) {
+    let mut file = Vec::new();
+    if std::io::stdin().read_to_end(&mut file).is_err() {
+        stop("the input could not be read");
+    }
+    let listed = mesh::read(&file).map(portion::list);
+    print(portion::text(&listed, &mark, most).as_bytes());
+}
+
+fn make(name: &str, which: usize, seed: u64) {
+    let family = families::FAMILIES.iter().find(|f| f.name == name).unwrap_or_else(|| stop("no such family"));
+    print(&compare::mesh_of(family, which, seed));
+}
+
+fn compare(args: &[String]) {
+    let mut plan =
+        Plan { program: None, ask: String::new(), save: "target/second".into(), seed: 1, scale: 1, only: None };
+    for pair in args.chunks(2) {
+        let value = pair.get(1).unwrap_or_else(|| stop("a word is missing")).clone();
+        match pair[0].as_str() {
+            "--ask" => plan.ask = value,
+            "--program" => plan.program = Some(value),
+            "--seed" => plan.seed = number(&value),
+            "--scale" => plan.scale = number(&value),
+            "--only" => plan.only = Some(value),
+            "--save" => plan.save = value.into(),
+            other => stop(&format!("what is {}?", other)),
+        }
+    }
+    Comparison::new(plan).run();
+}
+
+fn main() {
+    slips::choose();
+    let args: Vec<String> = std::env::args().skip(1).collect();
+    match args.first().map_or("", |s| s.as_str()) {
+        "list" if args.len() == 1 => answer(portion::START, usize::MAX),
+        "portion" if args.len() == 11 => {
+            let mut mark = [0; 9];
+            for (place, word) in mark.iter_mut().zip(&args[1..10]) {
+                *place = number(word);
+            }
+            answer(mark, number::<usize>(&args[10]).max(1));
+        }
+        "make" if args.len() == 3 || args.len() == 4 => {
+            make(&args[1], number(&args[2]), args.get(3).map_or(1, |s| number(s)))
+        }
+        "compare" => compare(&args[1..]),
+        "families" => families::FAMILIES.iter().for_each(|f| println!("{} {}", f.name, f.count)),
+        "slips" => slips::NAMES.iter().for_each(|s| println!("{}: {}", s.0, s.1)),
+        _ => stop("usage: second list | portion | make | compare | families | slips (see second/second.rs)"),
+    }
+}

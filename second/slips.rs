@@ -1,0 +1,64 @@
+// Deliberate errors, one at a time, for the test of the comparison itself.
+//
+// The environment variable SECOND_SLIP names one of them, and second/slips tries them all: the
+// comparison must report a difference for each. Without the variable nothing here has any effect.
+use std::sync::atomic::{AtomicUsize, Ordering};
+
+macro_rules! slips {
+    ($($id:ident = $name:literal, $what:literal;)*) => {
+        #[allow(non_camel_case_types)]
+        #[derive(Clone, Copy)]
+        pub enum Slip { $($id),* }
+        pub const NAMES: &[(&str, &str)] = &[$(($name, $what)),*];
+    };
+}
+
+slips! {
+    b_below_d_only = "b-below-d-only", "the least form of a hexahedron compares b with d alone";
+    by_tetrahedra = "by-tetrahedra", "two cells on the same tetrahedra are taken for one";
+    boundary_in = "boundary-in", "boundary tetrahedra are counted in";
+    more_to_come = "more-to-come", "the end is not told when the room ends at the last cell";
+    parts_mixed = "parts-mixed", "the part numbers are not compared";
+    flat_corner = "flat-corner", "a corner box of zero is taken for sound";
+    corner_g_free = "corner-g-free", "corner g of a hexahedron is not tested";
+    apex_turned = "apex-turned", "the corners of a pyramid are tested for the mirror image";
+    inside_free = "inside-free", "triples inside a cell may be facets of one tetrahedron";
+    face_twice = "face-twice", "a triangle face may be a facet of two";
+    facet_three = "facet-three", "three tetrahedra on a facet are let pass";
+    one_side = "one-side", "two tetrahedra on one side of a facet are let pass";
+    twice_before_range = "twice-before-range", "a vertex named twice is reported before one out of range";
+    flat_tetrahedron = "flat-tetrahedron", "a tetrahedron of box zero is let pass";
+    bound_below = "bound-below", "a coordinate of 50,000 is refused";
+    count_before_total = "count-before-total", "counts are tested before the header's total";
+    offset_free = "offset-free", "the offset of the tetrahedra is not tested";
+    letter_order = "letter-order", "hexahedra are sorted in letter order";
+    mark_whole = "mark-whole", "numbers of a mark beyond the kind's corners count";
+    mark_again = "mark-again", "the cell of the mark itself is handed out again";
+    mark_letters = "mark-letters", "the unused places of a mark are 65,535";
+    unused_zero = "unused-zero", "the unused corners of a record are zero";
+    table_short = "table-short", "a table that is one entry short is taken";
+    table_touched = "table-touched", "an entry after the table is written";
+    room_34 = "room-34", "a room of 34 entries is taken for one that needs no record";
+    least_unused = "least-unused", "unused places of a least form are handed back as they came";
+    least_twice = "least-twice", "equal corners in use are let pass";
+    box_bound = "box-bound", "a box on points out of bounds is answered";
+}
+
+static NOW: AtomicUsize = AtomicUsize::new(usize::MAX);
+
+// Reads SECOND_SLIP once, at the start of a program.
+pub fn choose() {
+    if let Ok(name) = std::env::var("SECOND_SLIP") {
+        match NAMES.iter().position(|s| s.0 == name) {
+            Some(i) => NOW.store(i, Ordering::Relaxed),
+            None => {
+                eprintln!("SECOND_SLIP names no slip: {}", name);
+                std::process::exit(2);
+            }
+        }
+    }
+}
+
+pub fn is(slip: Slip) -> bool {
+    NOW.load(Ordering::Relaxed) == slip as usize
+}
