@@ -18,7 +18,7 @@ use Rattle.templates.specs.Tables.{Template, place, templateOf, at}
 use Rattle.cells.specs.Cells.{hasEdges}
 use Rattle.cells.specs.Full.{allowed}
 use Rattle.portions.specs.Tuples.{front}
-use Rattle.search.specs.Leaf.{isLeaf}
+use Rattle.rule.specs.Rule.{isLeaf}
 use Rattle.search.specs.Levels.{base, joined}
 use Rattle.search.proofs.Levels.{isRow, joins, Right, right-at, row-same}
 use Rattle.search.proofs.Prune.{together-bare, leaf-edges, leaf-allowed}

@@ -22,7 +22,8 @@ use Rattle.cells.specs.Cells.{first, second, boxAt, isTuple, hasEdges, isFacet,
 use Rattle.cells.specs.Full.{allowed}
 use Rattle.cells.specs.Rows.{threes, fours}
 use Rattle.portions.specs.Tuples.{front, Agree}
-use Rattle.search.specs.Leaf.{goesOn, isLeaf}
+use Rattle.rule.specs.Rule.{goesOn, isLeaf}
+use Rattle.rule.proofs.OneKind.{Flat, flat-hexahedron, flat-prism, flat-pyramid, leaf-goes}
 use Rattle.search.specs.Levels.{base, triangles, trianglesAt, quads, quadsAt, triples, triplesAt, lesser, joined, part, levelOf}
 use Rattle.search.specs.Prune.{comesAfter, fits}
 use Rattle.search.proofs.Levels.{isRow, Right, right-at, run-same, vertex-same, row-same, rows-pass}
@@ -63,13 +64,13 @@ module _ (x d : ℕ) (s : List ℕ) (h : d ≤ length s) {r : Bool} (e : r ≡ i
   unfolding comesAfter
   comes-new {q} t a = a ∙ rw (sym found ∙ t)
 
-pub places-of : (k : ℕ) → length (templateOf k .search) ≡ templateOf k .corners
-places-of k = go (eqb k 8) (eqb k 6)
+pub flat-at : (k : ℕ) → Flat (templateOf k)
+flat-at k = go (eqb k 8) (eqb k 6)
   where
-    go : (a b : Bool) → length (cond a hexahedron (cond b prism pyramid) .search) ≡ cond a hexahedron (cond b prism pyramid) .corners
-    go true b = refl
-    go false true = refl
-    go false false = refl
+    go : (a b : Bool) → Flat (cond a hexahedron (cond b prism pyramid))
+    go true b = flat-hexahedron
+    go false true = flat-prism
+    go false false = flat-pyramid
 
 -- ── the mesh by its arrays ──
 
@@ -96,13 +97,14 @@ module _ (zs : List ℤ) (ls ps : List ℕ) (k : ℕ) (s : List ℕ) (leaf : isL
   abbrev c : List ℕ
   c = at s (t .places)
 
+  both : (goesOn (length (m .points)) (t .search) [] (front (t .corners) s) && isCell m t c) ≡ true
+  both = sym (leaf-goes m t (flat-at k) s) ∙ leaf
+
   goes : goesOn (length (m .points)) (t .search) [] (front (t .corners) s) ≡ true
-  unfolding isLeaf
-  goes = both-left (goesOn (length (m .points)) (t .search) [] (front (t .corners) s)) _ leaf
+  goes = both-left (goesOn (length (m .points)) (t .search) [] (front (t .corners) s)) _ both
 
   cell : isCell m t c ≡ true
-  unfolding isLeaf
-  cell = both-right (goesOn (length (m .points)) (t .search) [] (front (t .corners) s)) _ leaf
+  cell = both-right (goesOn (length (m .points)) (t .search) [] (front (t .corners) s)) _ both
 
   sound : isSound m t c ≡ true
   unfolding isCell
@@ -121,7 +123,7 @@ module _ (zs : List ℤ) (ls ps : List ℕ) (k : ℕ) (s : List ℕ) (leaf : isL
   module _ (d : ℕ) (h : d < t .corners) where
     at-place : (getD s d 0 < length (m .points)) × (allowed (getD (t .search) d (place [] [])) (front d s) (getD s d 0) ≡ true)
     at-place =
-        let r = goes-at (length (m .points)) (t .search) [] (front (t .corners) s) goes d (omega (arith, places-of k)) in
+        let r = goes-at (length (m .points)) (t .search) [] (front (t .corners) s) goes d (omega (arith, flat-at k .placed)) in
         let e : getD (front (t .corners) s) d 0 ≡ getD s d 0 = getD-up (λ i. getD s i 0) 0 (t .corners) d h in
         let f : take d (front (t .corners) s) ≡ front d s = take-run (λ i. getD s i 0) 0 (t .corners) d (omega arith) in
         (omega (arith, r .0), ap₂ (allowed (getD (t .search) d (place [] []))) (sym f) (sym e) ∙ r .1)

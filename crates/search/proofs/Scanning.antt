@@ -23,7 +23,7 @@ use Rattle.neighbours.specs.Table.{neighboursOf}
 use Rattle.neighbours.specs.Reading.{RowOf}
 use Rattle.neighbours.proofs.Reading.{row-rises, row-has}
 use Rattle.portions.specs.Tuples.{Agree, Skips}
-use Rattle.search.specs.Leaf.{isLeaf}
+use Rattle.rule.specs.Rule.{isLeaf}
 use Rattle.search.specs.Levels.{base, joined}
 use Rattle.search.specs.Prune.{fits}
 use Rattle.search.specs.Ready.{Ready, Scanned}

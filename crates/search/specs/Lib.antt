@@ -1,4 +1,3 @@
-pub mod Leaf
 pub mod Levels
 pub mod Prune
 pub mod Ready

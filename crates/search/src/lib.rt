@@ -19,7 +19,7 @@ ghost use Rattle.templates.specs.Tables.{templateOf};
 ghost use Rattle.cells.specs.Cells.{isSound, hasFaces};
 ghost use Rattle.cells.specs.Rows.{tabled};
 ghost use Rattle.portions.specs.Tuples.{Agree, Skips};
-ghost use Rattle.search.specs.Leaf.{isLeaf};
+ghost use Rattle.rule.specs.Rule.{isLeaf};
 ghost use Rattle.search.specs.Levels.{base, lesser, joined, part, levelOf};
 ghost use Rattle.search.specs.Prune.{comesAfter, fits};
 ghost use Rattle.search.specs.Ready.{Ready, Cut, Scanned};
