@@ -17,8 +17,9 @@ const GUARD: usize = 64;
 const MOST_RECORDS: usize = 35 * 200_000;
 
 pub struct Plan {
-    pub program: Option<String>,
-    pub ask: String,
+    // the words that start the program, if it is to be asked, and those that start second/ask.c
+    pub program: Vec<String>,
+    pub ask: Vec<String>,
     pub save: PathBuf,
     pub seed: u64,
     pub scale: usize,
@@ -74,11 +75,14 @@ fn first_apart(name: &str, got: &[u16], want: &[u16]) -> Option<String> {
 
 impl Comparison {
     pub fn new(plan: Plan) -> Comparison {
-        let mut ask = Command::new(&plan.ask)
+        let first = plan.ask.first().unwrap_or_else(|| stop("--ask is missing"));
+        let mut ask = Command::new(first)
+            .args(&plan.ask[1..])
+            .env_remove("SECOND_SLIP")
             .stdin(Stdio::piped())
             .stdout(Stdio::piped())
             .spawn()
-            .unwrap_or_else(|e| stop(&format!("cannot run {}: {}", plan.ask, e)));
+            .unwrap_or_else(|e| stop(&format!("cannot run {}: {}", first, e)));
         let to = BufWriter::new(ask.stdin.take().unwrap());
         let from = BufReader::with_capacity(1 << 16, ask.stdout.take().unwrap());
         let dice = Dice::new(plan.seed);
@@ -268,17 +272,18 @@ impl Comparison {
 
     // What the program prints, for the whole list or, with ten words, for a part of it.
     fn program(&mut self, listed: &Result<Listed, u32>, mark: Option<([u16; 9], usize)>) {
-        let path = match &self.plan.program {
+        let path = match self.plan.program.first() {
             Some(p) => p.clone(),
             None => return,
         };
         let mut command = Command::new(&path);
+        command.args(&self.plan.program[1..]);
         let (from, most) = mark.unwrap_or((START, usize::MAX));
         if mark.is_some() {
             command.args(words(&from).split(' ')).arg(most.to_string());
         }
         self.asked(format!("the program{}", mark.map_or(String::new(), |_| format!(" from {} room {}", words(&from), most))));
-        let run = command.stdin(Stdio::piped()).stdout(Stdio::piped()).spawn();
+        let run = command.env_remove("SECOND_SLIP").stdin(Stdio::piped()).stdout(Stdio::piped()).spawn();
         let mut run = run.unwrap_or_else(|e| stop(&format!("cannot run {}: {}", path, e)));
         let mut input = run.stdin.take().unwrap();
         let file = self.now.file.clone();

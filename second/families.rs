@@ -45,7 +45,7 @@ fn few_points(dice: &mut Dice, n: usize) -> Vec<[i32; 3]> {
 fn crowded_cube(dice: &mut Dice, i: usize) -> Draft {
     let by = [0, 1, 5, 20, 45, 80][i % 6];
     let mut points = bent_cube(dice, 50, by);
-    for _ in 0..dice.below(4) {
+    for _ in 0..dice.below(3) {
         points.push([0; 3].map(|_| dice.between(-120, 120)));
     }
     crowded(dice, points)
@@ -63,6 +63,15 @@ fn crowded_pair(dice: &mut Dice, _: usize) -> Draft {
         }
     }
     crowded(dice, points).shuffled(dice)
+}
+
+// Grids of bent cubes, cut into other tetrahedra.
+fn flips(dice: &mut Dice, i: usize, size: [usize; 3], times: usize) -> Draft {
+    let cubes = if i % 2 == 0 { Cubes::Kuhn } else { Cubes::Five };
+    let by = [10, 100, 200, 320][i / 2 % 4];
+    let d = grid(cubes, size, 1_000).jittered(dice, by);
+    let times = 1 + dice.below(times);
+    flipped(dice, &d, times).shuffled(dice)
 }
 
 fn hubs(dice: &mut Dice, i: usize) -> Draft {
@@ -220,11 +229,13 @@ pub const FAMILIES: &[Family] = &[
     Family { name: "five", count: 40, make: |d, i| plain(Cubes::Five, d, i).bytes() },
     Family { name: "five-jittered", count: 100, make: |d, i| jittered(Cubes::Five, d, i).bytes() },
     Family { name: "five-shuffled", count: 100, make: |d, i| shuffled(Cubes::Five, d, i).bytes() },
-    Family { name: "crowded-cube", count: 500, make: |d, i| crowded_cube(d, i).bytes() },
-    Family { name: "crowded-pair", count: 150, make: |d, i| crowded_pair(d, i).bytes() },
+    Family { name: "flipped-cube", count: 300, make: |d, i| flips(d, i, [1, 1, 1], 60).bytes() },
+    Family { name: "flipped", count: 150, make: |d, i| flips(d, i, [2, 1 + i % 3 / 2, 1 + i % 2], 300).bytes() },
+    Family { name: "crowded-cube", count: 250, make: |d, i| crowded_cube(d, i).bytes() },
+    Family { name: "crowded-pair", count: 30, make: |d, i| crowded_pair(d, i).bytes() },
     Family {
         name: "crowded",
-        count: 300,
+        count: 200,
         make: |d, _| {
             let n = 5 + d.below(7);
             let points = few_points(d, n);
