@@ -76,8 +76,8 @@ fn flips(dice: &mut Dice, i: usize, size: [usize; 3], times: usize) -> Draft {
 
 fn hubs(dice: &mut Dice, i: usize) -> Draft {
     let d = match i {
-        0 => hub(12, 42),
-        1 => hub(39, 13),
+        0 => hub_of(511, 12, 42),
+        1 => hub_of(511, 39, 13),
         _ => hub(1 + dice.below(5), 3 + dice.below(12)),
     };
     if i % 2 == 1 {
@@ -312,4 +312,53 @@ pub fn with_faults(faults: Vec<u32>) -> Vec<u8> {
         }
     }
     file
+}
+
+// The meshes that are timed, by name: families of rising size, up to the bounds.
+pub fn timed(seed: u64) -> Vec<(String, Draft)> {
+    let mut dice = Dice::new(seed);
+    let mut all = Vec::new();
+    let step = 10_000;
+    for (name, cubes) in [("kuhn", Cubes::Kuhn), ("five", Cubes::Five)] {
+        for k in 1..=7 {
+            let mut d = grid(cubes, [k, k, k], step);
+            d.tets.truncate(2_048);
+            d.parts.truncate(2_048);
+            for p in &mut d.points {
+                *p = p.map(|c| c - k as i32 * step / 2);
+            }
+            let moved = d.jittered(&mut dice, step / 6);
+            if k == 7 {
+                all.push((format!("{}-parts-{}", name, k), moved.clone().with_parts(&mut dice, 3)));
+                all.push((format!("{}-shuffled-{}", name, k), moved.shuffled(&mut dice)));
+            }
+            all.push((format!("{}-jittered-{}", name, k), moved));
+            all.push((format!("{}-{}", name, k), d));
+        }
+    }
+    for points in [20, 40, 80, 160, 320] {
+        all.push((format!("scattered-{}", points), scattered(&mut dice, points, 39_000)));
+    }
+    for (degree, rings, around) in [(32, 3, 10), (64, 6, 10), (128, 9, 14), (256, 12, 21), (511, 12, 42)] {
+        let d = hub_of(degree, rings, around);
+        all.push((format!("hub-{}", degree), d.clone()));
+        if degree == 511 {
+            all.push((format!("hub-last-{}", degree), turned_round(d)));
+        }
+    }
+    for ring in [30, 120, 510] {
+        let d = fan(ring, true, 45_000.0);
+        if d.all_stand() {
+            all.push((format!("fan-{}", ring), d));
+        }
+    }
+    all
+}
+
+// Numbers turned round, so that the first vertex becomes the last.
+fn turned_round(mut d: Draft) -> Draft {
+    let last = d.points.len() as u16 - 1;
+    d.points.reverse();
+    d.tets = d.tets.iter().map(|t| t.map(|v| last - v)).collect();
+    d
 }

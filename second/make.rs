@@ -427,6 +427,37 @@ pub fn hub(rings: usize, around: usize) -> Draft {
     d
 }
 
+// A hub with more points: each splits one triangle of the sphere into three.
+pub fn hub_of(degree: usize, rings: usize, around: usize) -> Draft {
+    let mut d = hub(rings, around);
+    let mut next = 0;
+    while d.points.len() <= degree {
+        let [o, x, y, z] = {
+            let mut t = d.tets[next];
+            while t[0] != 0 {
+                t.rotate_left(1);
+            }
+            t
+        };
+        let mut middle = [0.0; 3];
+        for v in [x, y, z] {
+            for (sum, c) in middle.iter_mut().zip(d.points[v as usize]) {
+                *sum += f64::from(c);
+            }
+        }
+        let length = middle.iter().map(|c| c * c).sum::<f64>().sqrt();
+        let new = d.points.len() as u16;
+        d.points.push(middle.map(|c| (c / length * 40_000.0) as i32));
+        d.tets.remove(next);
+        d.parts.remove(next);
+        for (p, q) in [(x, y), (y, z), (z, x)] {
+            d.add([o, p, q, new]);
+        }
+        next += 11;
+    }
+    d
+}
+
 // `ring` tetrahedra round one edge, the last joined to the first or not.
 pub fn fan(ring: usize, closed: bool, radius: f64) -> Draft {
     let mut d = Draft { points: vec![[0, 0, -20_000], [0, 0, 20_000]], ..Draft::default() };

@@ -8,6 +8,8 @@
 //   second compare --ask ASK [--program PROGRAM] [--seed N] [--scale K] [--only FAMILY] [--save DIR]
 //                                 asks the library (through ASK) and the program the same questions;
 //                                 ASK and PROGRAM of several words are given word by word
+//   second agree SEED PROGRAM...  holds another lister's output to its own, on every accepted mesh
+//   second timed DIR              writes the meshes that bench/run times
 //   second survey [SEED]          what is in each family: meshes accepted, cells of each kind, time
 //   second slips                  the names of the deliberate errors
 //
@@ -46,6 +48,18 @@ fn answer(mark: [u16; 9], most: usize) {
 fn make(name: &str, which: usize, seed: u64) {
     let family = families::FAMILIES.iter().find(|f| f.name == name).unwrap_or_else(|| stop("no such family"));
     print(&compare::mesh_of(family, which, seed));
+}
+
+fn timed(folder: &str) {
+    let wrote = std::fs::create_dir_all(folder).and_then(|_| {
+        for (i, (name, draft)) in families::timed(1).iter().enumerate() {
+            std::fs::write(format!("{}/{:02}-{}.mesh", folder, i, name), draft.bytes())?;
+        }
+        Ok(())
+    });
+    if wrote.is_err() {
+        stop("the meshes could not be written");
+    }
 }
 
 fn survey(seed: u64) {
@@ -103,8 +117,10 @@ fn main() {
             make(&args[1], number(&args[2]), args.get(3).map_or(1, |s| number(s)))
         }
         "compare" => compare(&args[1..]),
+        "agree" if args.len() >= 3 => compare::agree(&args[2..], number(&args[1])),
+        "timed" if args.len() == 2 => timed(&args[1]),
         "survey" if args.len() <= 2 => survey(args.get(1).map_or(1, |s| number(s))),
         "slips" => slips::NAMES.iter().for_each(|s| println!("{}: {}", s.0, s.1)),
-        _ => stop("usage: second list | portion | make | compare | survey | slips (see second/second.rs)"),
+        _ => stop("usage: second list | portion | make | compare | agree | timed | survey | slips (see second/second.rs)"),
     }
 }
