@@ -2,6 +2,7 @@
 use space::Vertex;
 ghost use mathlib.Core.Path.{_≡_};
 ghost use mathlib.Core.List.{[]};
+ghost use mathlib.Core.Bool.{cond};
 ghost use Prim.Native.Nat.{ℕ, _+_, _*_, _/_, _<_, _≤_};
 ghost use lib.ListN.{length, getD};
 ghost use Rattle.base.specs.Laid.{Laid};
@@ -174,11 +175,11 @@ fn put_table(m: &[u8; 262144], n: usize, table: &mut [u16])
     put_rows(m, n, table);
 }
 
-// The neighbour table of n vertices, where the slice has room for it.
-pub fn fill(labels: &[u16], n: usize, table: &mut [u16]) -> Filled
+// Whether the slice has room for the neighbour table of n vertices; the table is written where it has, if it is wanted.
+pub fn fill_if(labels: &[u16], n: usize, wanted: bool, table: &mut [u16]) -> Filled
     requires { ⌜ (n ≤ 512) × Labelled (now labels) n ⌝ }
     ensures answer { λ r. ⌜ r ≡ filledOf (meshOf [] (now (labels .entry)) []) n (length (now (table .entry))) ⌝ }
-    ensures content { λ r. ⌜ now (table .exit) ≡ tableAfter (meshOf [] (now (labels .entry)) []) n (now (table .entry)) ⌝ }
+    ensures content { λ r. ⌜ now (table .exit) ≡ cond wanted (tableAfter (meshOf [] (now (labels .entry)) []) n (now (table .entry))) (now (table .entry)) ⌝ }
 {
     let mut m = [0u8; 262144];
     mark_all(&mut m, labels);
@@ -186,8 +187,19 @@ pub fn fill(labels: &[u16], n: usize, table: &mut [u16]) -> Filled
     if table.len() < size {
         return Filled::Short;
     }
-    put_table(&m, n, table);
+    if wanted {
+        put_table(&m, n, table);
+    }
     Filled::Entries(size)
+}
+
+// The neighbour table of n vertices, where the slice has room for it.
+pub fn fill(labels: &[u16], n: usize, table: &mut [u16]) -> Filled
+    requires { ⌜ (n ≤ 512) × Labelled (now labels) n ⌝ }
+    ensures answer { λ r. ⌜ r ≡ filledOf (meshOf [] (now (labels .entry)) []) n (length (now (table .entry))) ⌝ }
+    ensures content { λ r. ⌜ now (table .exit) ≡ tableAfter (meshOf [] (now (labels .entry)) []) n (now (table .entry)) ⌝ }
+{
+    fill_if(labels, n, true, table)
 }
 
 // ---- reading a table
