@@ -281,8 +281,7 @@ impl<'a> Known<'a> {
         let times = |x: usize, y: usize, z: usize| count.get(&rising3([t[x], t[y], t[z]])).copied().unwrap_or(0);
         let mut outline = BTreeSet::new();
         for f in &shape.triangles {
-            let found = times(f[0], f[1], f[2]);
-            if found != 1 && !(found == 2 && is(Slip::face_twice)) {
+            if times(f[0], f[1], f[2]) != 1 {
                 return false;
             }
             outline.insert(rising3([t[f[0]], t[f[1]], t[f[2]]]));
@@ -342,14 +341,20 @@ impl<'a> Known<'a> {
         for (&(a, b), ring) in &self.rings {
             let later: Vec<_> = ring.iter().filter(|(w, z)| a < b && a < *w && a < *z).collect();
             for &&(d, c) in later.iter().filter(|(d, _)| b < *d) {
-                for &&(e, f) in &later {
+                for &&(e, f) in later.iter().filter(|(e, _)| b < *e || is(Slip::b_below_d_only)) {
                     let apart = d != e && d != f && c != e && c != f;
                     if !apart || !self.above_zero(a, b, d, e) || !self.above_zero(b, c, a, f) {
                         continue;
                     }
                     for &(_, h) in self.fourth(e, a, d) {
+                        let apart = h != b && h != c && h != f;
+                        if !apart || !self.above_zero(d, a, c, h) || !self.above_zero(e, h, f, a) {
+                            continue;
+                        }
                         for &(_, g) in self.fourth(f, b, c) {
-                            self.consider(8, &[a, b, c, d, e, f, g, h], found);
+                            if self.is_face(d, c, g, h) && self.is_face(e, f, g, h) {
+                                self.consider(8, &[a, b, c, d, e, f, g, h], found);
+                            }
                         }
                     }
                 }
@@ -364,7 +369,9 @@ impl<'a> Known<'a> {
             for (b, c) in [(facet[1], facet[2]), (facet[2], facet[1])] {
                 for &(d, e) in self.ring(a, b) {
                     for &(_, f) in self.fourth(e, b, c) {
-                        self.consider(6, &[a, b, c, d, e, f], found);
+                        if self.is_facet(d, e, f) && self.is_face(a, c, f, d) {
+                            self.consider(6, &[a, b, c, d, e, f], found);
+                        }
                     }
                 }
             }

@@ -10,15 +10,16 @@ use crate::portion::{list, mark_of, text, words, Answer, Listed, RECORD, START};
 use crate::slips::{is, Slip};
 use std::io::{BufReader, BufWriter, Read, Write};
 use std::path::PathBuf;
-use std::process::{Child, ChildStdin, ChildStdout, Command, Stdio};
+use std::process::{Child, ChildStdin, ChildStdout, Command, Output, Stdio};
 use std::sync::atomic::{AtomicU64, Ordering};
 
 const GUARD: usize = 64;
 const MOST_RECORDS: usize = 35 * 200_000;
 
 pub struct Plan {
-    pub program: Option<String>,
-    pub ask: String,
+    // the words that start the program, if it is to be asked, and those that start second/ask.c
+    pub program: Vec<String>,
+    pub ask: Vec<String>,
     pub save: PathBuf,
     pub seed: u64,
     pub scale: usize,
@@ -74,11 +75,14 @@ fn first_apart(name: &str, got: &[u16], want: &[u16]) -> Option<String> {
 
 impl Comparison {
     pub fn new(plan: Plan) -> Comparison {
-        let mut ask = Command::new(&plan.ask)
+        let first = plan.ask.first().unwrap_or_else(|| stop("--ask is missing"));
+        let mut ask = Command::new(first)
+            .args(&plan.ask[1..])
+            .env_remove("SECOND_SLIP")
             .stdin(Stdio::piped())
             .stdout(Stdio::piped())
             .spawn()
-            .unwrap_or_else(|e| stop(&format!("cannot run {}: {}", plan.ask, e)));
+            .unwrap_or_else(|e| stop(&format!("cannot run {}: {}", first, e)));
         let to = BufWriter::new(ask.stdin.take().unwrap());
         let from = BufReader::with_capacity(1 << 16, ask.stdout.take().unwrap());
         let dice = Dice::new(plan.seed);
@@ -268,27 +272,17 @@ impl Comparison {
 
     // What the program prints, for the whole list or, with ten words, for a part of it.
     fn program(&mut self, listed: &Result<Listed, u32>, mark: Option<([u16; 9], usize)>) {
-        let path = match &self.plan.program {
-            Some(p) => p.clone(),
-            None => return,
-        };
-        let mut command = Command::new(&path);
-        let (from, most) = mark.unwrap_or((START, usize::MAX));
-        if mark.is_some() {
-            command.args(words(&from).split(' ')).arg(most.to_string());
+        if self.plan.program.is_empty() {
+            return;
         }
-        self.asked(format!("the program{}", mark.map_or(String::new(), |_| format!(" from {} room {}", words(&from), most))));
-        let run = command.stdin(Stdio::piped()).stdout(Stdio::piped()).spawn();
-        let mut run = run.unwrap_or_else(|e| stop(&format!("cannot run {}: {}", path, e)));
-        let mut input = run.stdin.take().unwrap();
-        let file = self.now.file.clone();
-        // a program that has read enough may leave the rest
-        let feed = std::thread::spawn(move || input.write_all(&file).is_ok());
-        let got = match run.wait_with_output() {
-            Ok(out) => out,
-            Err(e) => stop(&format!("cannot run {}: {}", path, e)),
-        };
-        let _ = feed.join();
+        let (from, most) = mark.unwrap_or((START, usize::MAX));
+        let mut extra = Vec::new();
+        if mark.is_some() {
+            extra = words(&from).split(' ').map(|w| w.to_string()).collect();
+            extra.push(most.to_string());
+        }
+        self.asked(format!("the program {}", extra.join(" ")));
+        let got = run(&self.plan.program, &extra, &self.now.file);
         let want = text(listed, &from, most);
         if !got.status.success() {
             self.differ(&format!("the program ended with {}", got.status));
@@ -614,6 +608,39 @@ impl Comparison {
         }
         println!("compared: {} meshes, {} questions, no difference", self.meshes, self.questions);
     }
+}
+
+// Runs a program on a file. One that has read enough may leave the rest.
+fn run(words: &[String], extra: &[String], file: &[u8]) -> Output {
+    let cannot = |e: std::io::Error| -> ! { stop(&format!("cannot run {}: {}", words[0], e)) };
+    let mut command = Command::new(&words[0]);
+    command.args(&words[1..]).args(extra).env_remove("SECOND_SLIP");
+    let mut child = command.stdin(Stdio::piped()).stdout(Stdio::piped()).spawn().unwrap_or_else(|e| cannot(e));
+    let mut input = child.stdin.take().unwrap();
+    let file = file.to_vec();
+    let feed = std::thread::spawn(move || input.write_all(&file).is_ok());
+    let got = child.wait_with_output().unwrap_or_else(|e| cannot(e));
+    let _ = feed.join();
+    got
+}
+
+// Holds another lister to the one here, on every mesh of every family that is accepted.
+pub fn agree(program: &[String], seed: u64) {
+    let mut sum = 0;
+    for family in FAMILIES {
+        for i in 0..family.count {
+            let file = mesh_of(family, i, seed);
+            if let Ok(mesh) = read(&file) {
+                let want = text(&Ok(list(mesh)), &START, usize::MAX);
+                if run(program, &[], &file).stdout != want.as_bytes() {
+                    println!("DIFFERENCE in family {} number {}", family.name, i);
+                    std::process::exit(1);
+                }
+                sum += 1;
+            }
+        }
+    }
+    println!("agreed on {} meshes", sum);
 }
 
 // Each mesh has its own dice, so that one family's count does not move another's meshes.

@@ -45,7 +45,7 @@ fn few_points(dice: &mut Dice, n: usize) -> Vec<[i32; 3]> {
 fn crowded_cube(dice: &mut Dice, i: usize) -> Draft {
     let by = [0, 1, 5, 20, 45, 80][i % 6];
     let mut points = bent_cube(dice, 50, by);
-    for _ in 0..dice.below(4) {
+    for _ in 0..dice.below(3) {
         points.push([0; 3].map(|_| dice.between(-120, 120)));
     }
     crowded(dice, points)
@@ -65,10 +65,19 @@ fn crowded_pair(dice: &mut Dice, _: usize) -> Draft {
     crowded(dice, points).shuffled(dice)
 }
 
+// Grids of bent cubes, cut into other tetrahedra.
+fn flips(dice: &mut Dice, i: usize, size: [usize; 3], times: usize) -> Draft {
+    let cubes = if i % 2 == 0 { Cubes::Kuhn } else { Cubes::Five };
+    let by = [10, 100, 200, 320][i / 2 % 4];
+    let d = grid(cubes, size, 1_000).jittered(dice, by);
+    let times = 1 + dice.below(times);
+    flipped(dice, &d, times).shuffled(dice)
+}
+
 fn hubs(dice: &mut Dice, i: usize) -> Draft {
     let d = match i {
-        0 => hub(12, 42),
-        1 => hub(39, 13),
+        0 => hub_of(511, 12, 42),
+        1 => hub_of(511, 39, 13),
         _ => hub(1 + dice.below(5), 3 + dice.below(12)),
     };
     if i % 2 == 1 {
@@ -220,11 +229,13 @@ pub const FAMILIES: &[Family] = &[
     Family { name: "five", count: 40, make: |d, i| plain(Cubes::Five, d, i).bytes() },
     Family { name: "five-jittered", count: 100, make: |d, i| jittered(Cubes::Five, d, i).bytes() },
     Family { name: "five-shuffled", count: 100, make: |d, i| shuffled(Cubes::Five, d, i).bytes() },
-    Family { name: "crowded-cube", count: 500, make: |d, i| crowded_cube(d, i).bytes() },
-    Family { name: "crowded-pair", count: 150, make: |d, i| crowded_pair(d, i).bytes() },
+    Family { name: "flipped-cube", count: 300, make: |d, i| flips(d, i, [1, 1, 1], 60).bytes() },
+    Family { name: "flipped", count: 150, make: |d, i| flips(d, i, [2, 1 + i % 3 / 2, 1 + i % 2], 300).bytes() },
+    Family { name: "crowded-cube", count: 250, make: |d, i| crowded_cube(d, i).bytes() },
+    Family { name: "crowded-pair", count: 30, make: |d, i| crowded_pair(d, i).bytes() },
     Family {
         name: "crowded",
-        count: 300,
+        count: 200,
         make: |d, _| {
             let n = 5 + d.below(7);
             let points = few_points(d, n);
@@ -301,4 +312,53 @@ pub fn with_faults(faults: Vec<u32>) -> Vec<u8> {
         }
     }
     file
+}
+
+// The meshes that are timed, by name: families of rising size, up to the bounds.
+pub fn timed(seed: u64) -> Vec<(String, Draft)> {
+    let mut dice = Dice::new(seed);
+    let mut all = Vec::new();
+    let step = 10_000;
+    for (name, cubes) in [("kuhn", Cubes::Kuhn), ("five", Cubes::Five)] {
+        for k in 1..=7 {
+            let mut d = grid(cubes, [k, k, k], step);
+            d.tets.truncate(2_048);
+            d.parts.truncate(2_048);
+            for p in &mut d.points {
+                *p = p.map(|c| c - k as i32 * step / 2);
+            }
+            let moved = d.jittered(&mut dice, step / 6);
+            if k == 7 {
+                all.push((format!("{}-parts-{}", name, k), moved.clone().with_parts(&mut dice, 3)));
+                all.push((format!("{}-shuffled-{}", name, k), moved.shuffled(&mut dice)));
+            }
+            all.push((format!("{}-jittered-{}", name, k), moved));
+            all.push((format!("{}-{}", name, k), d));
+        }
+    }
+    for points in [20, 40, 80, 160, 320] {
+        all.push((format!("scattered-{}", points), scattered(&mut dice, points, 39_000)));
+    }
+    for (degree, rings, around) in [(32, 3, 10), (64, 6, 10), (128, 9, 14), (256, 12, 21), (511, 12, 42)] {
+        let d = hub_of(degree, rings, around);
+        all.push((format!("hub-{}", degree), d.clone()));
+        if degree == 511 {
+            all.push((format!("hub-last-{}", degree), turned_round(d)));
+        }
+    }
+    for ring in [30, 120, 510] {
+        let d = fan(ring, true, 45_000.0);
+        if d.all_stand() {
+            all.push((format!("fan-{}", ring), d));
+        }
+    }
+    all
+}
+
+// Numbers turned round, so that the first vertex becomes the last.
+fn turned_round(mut d: Draft) -> Draft {
+    let last = d.points.len() as u16 - 1;
+    d.points.reverse();
+    d.tets = d.tets.iter().map(|t| t.map(|v| last - v)).collect();
+    d
 }

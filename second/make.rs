@@ -220,6 +220,69 @@ impl Growing {
     }
 }
 
+// Other tetrahedra in the same space: two on a facet become three round an edge, or the other way
+// round, wherever that keeps every tetrahedron on its side.
+pub fn flipped(dice: &mut Dice, draft: &Draft, times: usize) -> Draft {
+    let mut d = draft.clone();
+    for _ in 0..times {
+        let next = if dice.one_in(2) { two_to_three(dice, &d) } else { three_to_two(dice, &d) };
+        if let Some(next) = next {
+            if crate::mesh::read(&next.bytes()).is_ok() {
+                d = next;
+            }
+        }
+    }
+    d
+}
+
+fn replaced(d: &Draft, out: &[usize], new: &[[u16; 4]]) -> Option<Draft> {
+    if new.iter().any(|t| d.volume(*t) == 0) || d.tets.len() + new.len() > 2_048 {
+        return None;
+    }
+    let mut next = d.clone();
+    let mut i = 0;
+    next.tets.retain(|_| {
+        i += 1;
+        !out.contains(&(i - 1))
+    });
+    next.parts.truncate(next.tets.len());
+    let before: i128 = out.iter().map(|i| d.volume(d.tets[*i])).sum();
+    let after: i128 = new.iter().map(|t| d.volume(*t).abs()).sum();
+    for t in new {
+        next.add(*t);
+    }
+    if before == after {
+        Some(next)
+    } else {
+        None
+    }
+}
+
+fn two_to_three(dice: &mut Dice, d: &Draft) -> Option<Draft> {
+    let first = dice.below(d.tets.len());
+    let left_out = dice.below(4);
+    let f = without(&d.tets[first], left_out);
+    let shares = |i: &usize| *i != first && f.iter().all(|v| d.tets[*i].contains(v));
+    let second = (0..d.tets.len()).find(shares)?;
+    let s = d.tets[first][left_out];
+    let t = *d.tets[second].iter().find(|v| !f.contains(v))?;
+    replaced(d, &[first, second], &[[f[0], f[1], s, t], [f[1], f[2], s, t], [f[2], f[0], s, t]])
+}
+
+fn three_to_two(dice: &mut Dice, d: &Draft) -> Option<Draft> {
+    let mut four = d.tets[dice.below(d.tets.len())];
+    dice.shuffle(&mut four);
+    let (s, t) = (four[0], four[1]);
+    let round: Vec<usize> = (0..d.tets.len()).filter(|i| d.tets[*i].contains(&s) && d.tets[*i].contains(&t)).collect();
+    let mut ring: Vec<u16> = round.iter().flat_map(|i| d.tets[*i]).filter(|v| *v != s && *v != t).collect();
+    ring.sort_unstable();
+    ring.dedup();
+    if round.len() != 3 || ring.len() != 3 {
+        return None;
+    }
+    replaced(d, &round, &[[ring[0], ring[1], ring[2], s], [ring[0], ring[1], ring[2], t]])
+}
+
 // Which tetrahedra fill each cube of a grid.
 #[derive(Clone, Copy, PartialEq)]
 pub enum Cubes {
@@ -360,6 +423,37 @@ pub fn hub(rings: usize, around: usize) -> Draft {
             d.add([0, at(r, k), at(r, k + 1), at(r + 1, k + shift)]);
             d.add([0, at(r + 1, k), at(r + 1, k + 1), at(r, k + 1 - shift)]);
         }
+    }
+    d
+}
+
+// A hub with more points: each splits one triangle of the sphere into three.
+pub fn hub_of(degree: usize, rings: usize, around: usize) -> Draft {
+    let mut d = hub(rings, around);
+    let mut next = 0;
+    while d.points.len() <= degree {
+        let [o, x, y, z] = {
+            let mut t = d.tets[next];
+            while t[0] != 0 {
+                t.rotate_left(1);
+            }
+            t
+        };
+        let mut middle = [0.0; 3];
+        for v in [x, y, z] {
+            for (sum, c) in middle.iter_mut().zip(d.points[v as usize]) {
+                *sum += f64::from(c);
+            }
+        }
+        let length = middle.iter().map(|c| c * c).sum::<f64>().sqrt();
+        let new = d.points.len() as u16;
+        d.points.push(middle.map(|c| (c / length * 40_000.0) as i32));
+        d.tets.remove(next);
+        d.parts.remove(next);
+        for (p, q) in [(x, y), (y, z), (z, x)] {
+            d.add([o, p, q, new]);
+        }
+        next += 11;
     }
     d
 }

@@ -63,7 +63,7 @@ fn comes_after(c: &Cell, mark: &[u16; 9]) -> bool {
     let mut seen = c.corners.clone();
     let mut asked = mark[1..].to_vec();
     if is(Slip::mark_whole) {
-        seen.resize(8, 0);
+        seen.resize(8, 65_535);
     } else {
         asked.truncate(seen.len());
     }
@@ -97,7 +97,7 @@ impl Listed {
         if table_room + usize::from(is(Slip::table_short)) < self.table.len() {
             return Answer::refusal(10, mark);
         }
-        if record_room < RECORD - usize::from(is(Slip::room_34)) {
+        if record_room < RECORD + usize::from(is(Slip::room_36)) {
             return Answer::refusal(11, mark);
         }
         let after = self.after(mark);

@@ -6,8 +6,12 @@
 //   second make FAMILY NUMBER [SEED]
 //                                 writes one mesh of a family to standard output
 //   second compare --ask ASK [--program PROGRAM] [--seed N] [--scale K] [--only FAMILY] [--save DIR]
-//                                 asks the library (through ASK) and the program the same questions
-//   second families, second slips prints their names
+//                                 asks the library (through ASK) and the program the same questions;
+//                                 ASK and PROGRAM of several words are given word by word
+//   second agree SEED PROGRAM...  holds another lister's output to its own, on every accepted mesh
+//   second timed DIR              writes the meshes that bench/run times
+//   second survey [SEED]          what is in each family: meshes accepted, cells of each kind, time
+//   second slips                  the names of the deliberate errors
 //
 // Plain Rust, one call of rustc, nothing but std. It shares nothing with the library: no code, no
 // table and no way of searching.
@@ -46,14 +50,47 @@ fn make(name: &str, which: usize, seed: u64) {
     print(&compare::mesh_of(family, which, seed));
 }
 
+fn timed(folder: &str) {
+    let wrote = std::fs::create_dir_all(folder).and_then(|_| {
+        for (i, (name, draft)) in families::timed(1).iter().enumerate() {
+            std::fs::write(format!("{}/{:02}-{}.mesh", folder, i, name), draft.bytes())?;
+        }
+        Ok(())
+    });
+    if wrote.is_err() {
+        stop("the meshes could not be written");
+    }
+}
+
+fn survey(seed: u64) {
+    println!("family meshes accepted hexahedra prisms pyramids most-cells milliseconds");
+    for family in families::FAMILIES {
+        let (mut accepted, mut most, mut kinds) = (0, 0, [0; 3]);
+        let began = std::time::Instant::now();
+        for i in 0..family.count {
+            if let Ok(mesh) = mesh::read(&compare::mesh_of(family, i, seed)) {
+                let listed = portion::list(mesh);
+                accepted += 1;
+                most = most.max(listed.cells.len());
+                for c in &listed.cells {
+                    kinds[[8, 6, 5].iter().position(|k| *k == c.kind).unwrap()] += 1;
+                }
+            }
+        }
+        let [h, s, p] = kinds;
+        let took = began.elapsed().as_millis();
+        println!("{} {} {} {} {} {} {} {}", family.name, family.count, accepted, h, s, p, most, took);
+    }
+}
+
 fn compare(args: &[String]) {
     let mut plan =
-        Plan { program: None, ask: String::new(), save: "target/second".into(), seed: 1, scale: 1, only: None };
+        Plan { program: vec![], ask: vec![], save: "target/second".into(), seed: 1, scale: 1, only: None };
     for pair in args.chunks(2) {
         let value = pair.get(1).unwrap_or_else(|| stop("a word is missing")).clone();
         match pair[0].as_str() {
-            "--ask" => plan.ask = value,
-            "--program" => plan.program = Some(value),
+            "--ask" => plan.ask.push(value),
+            "--program" => plan.program.push(value),
             "--seed" => plan.seed = number(&value),
             "--scale" => plan.scale = number(&value),
             "--only" => plan.only = Some(value),
@@ -80,8 +117,10 @@ fn main() {
             make(&args[1], number(&args[2]), args.get(3).map_or(1, |s| number(s)))
         }
         "compare" => compare(&args[1..]),
-        "families" => families::FAMILIES.iter().for_each(|f| println!("{} {}", f.name, f.count)),
+        "agree" if args.len() >= 3 => compare::agree(&args[2..], number(&args[1])),
+        "timed" if args.len() == 2 => timed(&args[1]),
+        "survey" if args.len() <= 2 => survey(args.get(1).map_or(1, |s| number(s))),
         "slips" => slips::NAMES.iter().for_each(|s| println!("{}: {}", s.0, s.1)),
-        _ => stop("usage: second list | portion | make | compare | families | slips (see second/second.rs)"),
+        _ => stop("usage: second list | portion | make | compare | agree | timed | survey | slips (see second/second.rs)"),
     }
 }

@@ -23,7 +23,6 @@ slips! {
     corner_g_free = "corner-g-free", "corner g of a hexahedron is not tested";
     apex_turned = "apex-turned", "the corners of a pyramid are tested for the mirror image";
     inside_free = "inside-free", "triples inside a cell may be facets of one tetrahedron";
-    face_twice = "face-twice", "a triangle face may be a facet of two";
     facet_three = "facet-three", "three tetrahedra on a facet are let pass";
     one_side = "one-side", "two tetrahedra on one side of a facet are let pass";
     twice_before_range = "twice-before-range", "a vertex named twice is reported before one out of range";
@@ -38,7 +37,7 @@ slips! {
     unused_zero = "unused-zero", "the unused corners of a record are zero";
     table_short = "table-short", "a table that is one entry short is taken";
     table_touched = "table-touched", "an entry after the table is written";
-    room_34 = "room-34", "a room of 34 entries is taken for one that needs no record";
+    room_36 = "room-36", "a room of 35 entries is refused";
     least_unused = "least-unused", "unused places of a least form are handed back as they came";
     least_twice = "least-twice", "equal corners in use are let pass";
     box_bound = "box-bound", "a box on points out of bounds is answered";

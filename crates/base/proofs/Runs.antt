@@ -1,10 +1,11 @@
 -- Lists that grow at their end: maps, filters and spreads over a run of numbers. Assumes nothing.
 use mathlib.Core.Path.{_≡_, refl, sym, _∙_, ap}
 use mathlib.Core.Bool.{Bool, true, false, cond, _||_, or-false, or-assoc}
-use mathlib.Core.List.{List, [], _∷_, _++_, map, append-assoc}
-use Prim.Native.Nat.{ℕ, zero, suc, _+_, _<_}
+use mathlib.Core.List.{List, [], _∷_, _++_, map, append-assoc, List·Memᴰ, List·Memᴰ·head, List·Memᴰ·tail}
+use Prim.Native.Nat.{ℕ, zero, suc, _+_, _≤_, _<_}
 use native.Mathlib.Nat.{zero-add, add-zero, suc-add, add-suc}
 use native.Mathlib.Omega.{arith}
+use lib.ListN.{length, getD}
 use Rattle.base.specs.Lists.{any, keep, spread, from, upTo}
 
 module _ {A B : Type 0} where
@@ -38,3 +39,34 @@ pub keep-same : (p q : ℕ → Bool) (i k : ℕ) → ((x : ℕ) → x < i + k �
 unfolding keep
 keep-same p q i zero h = refl
 keep-same p q i (suc k) h = rw (h i (omega arith), keep-same p q (suc i) k (λ x l. h x (omega arith)))
+
+-- what is in a list stands at some place of it
+pub place-of : {x : ℕ} (xs : List ℕ) → List·Memᴰ x xs → (i : ℕ) × (i < length xs) × (getD xs i 0 ≡ x)
+place-of (y ∷ ys) (List·Memᴰ·head q) = (0, omega arith, sym q)
+place-of (y ∷ ys) (List·Memᴰ·tail h) = let r = place-of ys h in (suc (r .0), omega (arith, r .1), r .2)
+
+-- a test keeps of a run numbers that rise
+kept-from : (p : ℕ → Bool) (a k j : ℕ) → j < length (keep p (from a k)) → a ≤ getD (keep p (from a k)) j 0
+unfolding keep
+kept-from p a zero j h = absurd (omega arith)
+kept-from p a (suc k) j h = go (p a) j h (λ i. kept-from p (suc a) k i)
+  where
+    go : (b : Bool) (j : ℕ) → j < length (cond b (a ∷ keep p (from (suc a) k)) (keep p (from (suc a) k))) → ((i : ℕ) → i < length (keep p (from (suc a) k)) → suc a ≤ getD (keep p (from (suc a) k)) i 0) → a ≤ getD (cond b (a ∷ keep p (from (suc a) k)) (keep p (from (suc a) k))) j 0
+    go true zero h r = omega arith
+    go true (suc j) h r = omega (arith, r j (omega arith))
+    go false j h r = omega (arith, r j h)
+
+pub kept-rises : (p : ℕ → Bool) (a k i j : ℕ) → i < j → j < length (keep p (from a k)) → getD (keep p (from a k)) i 0 < getD (keep p (from a k)) j 0
+unfolding keep
+kept-rises p a zero i j l h = absurd (omega arith)
+kept-rises p a (suc k) i j l h = go (p a) i j l h (λ u v. kept-rises p (suc a) k u v) (λ v. kept-from p (suc a) k v)
+  where
+    go : (b : Bool) (i j : ℕ) → i < j → j < length (cond b (a ∷ keep p (from (suc a) k)) (keep p (from (suc a) k)))
+        → ((u v : ℕ) → u < v → v < length (keep p (from (suc a) k)) → getD (keep p (from (suc a) k)) u 0 < getD (keep p (from (suc a) k)) v 0)
+        → ((v : ℕ) → v < length (keep p (from (suc a) k)) → suc a ≤ getD (keep p (from (suc a) k)) v 0)
+        → getD (cond b (a ∷ keep p (from (suc a) k)) (keep p (from (suc a) k))) i 0 < getD (cond b (a ∷ keep p (from (suc a) k)) (keep p (from (suc a) k))) j 0
+    go true zero zero l h r w = absurd (omega arith)
+    go true zero (suc j) l h r w = omega (arith, w j (omega arith))
+    go true (suc i) zero l h r w = absurd (omega arith)
+    go true (suc i) (suc j) l h r w = r i j (omega arith) (omega arith)
+    go false i j l h r w = r i j l h

@@ -1,18 +1,21 @@
 // Which tetrahedra a cell has, and whether they fill it and are of one part: conditions 5 and 6.
 ghost use mathlib.Core.Path.{_≡_};
+ghost use mathlib.Core.Bool.{true};
 ghost use mathlib.Core.List.{[], _∷_};
 ghost use Prim.Native.Nat.{_/_, _<_};
 ghost use lib.Dec.{eqb};
 ghost use lib.ListN.{length, getD};
 ghost use Rattle.base.specs.Lists.{all, any, count, isIn};
-ghost use Rattle.space.specs.Arrays.{row4, tetAt, meshOf};
+ghost use Rattle.space.specs.Arrays.{row4, tetAt, meshOf, around};
 ghost use Rattle.around.specs.Index.{Indexed, hasAll};
 ghost use Rattle.around.specs.Build.{Within};
 ghost use Rattle.templates.specs.Tables.{at};
 ghost use Rattle.cells.specs.Cells.{noneOrTwo, isDiagonal, belongs, numbersOf};
 ghost use Rattle.cells.specs.Rows.{row3, threes, fours, quadsOf};
 ghost use Rattle.filling.specs.Found.{Found, pushed};
+ghost use Rattle.filling.specs.Next.{Lesser, Least, Visited, NextOf};
 ghost use Rattle.filling.specs.Filled.{sidesIn, once, paired, covers, fills, onePart};
+use around::row_of;
 use cells::corners3;
 use cells::corners4;
 use space::Tet;
@@ -96,7 +99,122 @@ fn push(f: Tets, e: Tet) -> Tets
     Tets { count: k + 1, list }
 }
 
-// The tetrahedra of the cell on these corners.
+// The lesser of `least` and the tetrahedron, where this is one of the cell's and not below lo; else `least`.
+fn lesser(labels: &[u16], e: Tet, lo: usize, least: usize, c: &[u16], quads: &[u8]) -> usize
+    requires { ⌜ e .0 < length (now labels) / 4 ⌝ }
+    ensures { λ r. ⌜ Lesser (belongs (meshOf [] (now (labels .entry)) []) (quadsOf (now (quads .entry))) (now (c .entry)) (tetAt (now (labels .entry)) [] (e .0))) lo (e .0) least r ⌝ }
+{
+    let j = e.0 as usize;
+    if j < lo {
+        return least;
+    }
+    if least <= j {
+        return least;
+    }
+    if belongs_to(labels, e, c, quads) {
+        j
+    } else {
+        least
+    }
+}
+
+// The least of a row's tetrahedra that is one of the cell's and not below lo; hi where none below hi is.
+fn least_in(labels: &[u16], row: &[u16], lo: usize, hi: usize, c: &[u16], quads: &[u8]) -> usize
+    requires { ⌜ Within (length (now labels) / 4) (now row) ⌝ }
+    ensures { λ r. ⌜ Least (λ j. belongs (meshOf [] (now (labels .entry)) []) (quadsOf (now (quads .entry))) (now (c .entry)) (tetAt (now (labels .entry)) [] j)) lo hi (now (row .entry)) (length (now (row .entry))) r ⌝ }
+{
+    let mut least = hi;
+    let mut k = 0;
+    while k < row.len() {
+        let i = row[k];
+        least = lesser(labels, Tet(i), lo, least, c, quads);
+        k += 1;
+    }
+    least
+}
+
+// The search's state at a corner: the least tetrahedron so far, and how many corners were left out.
+struct Step {
+    least: usize,
+    out: usize,
+}
+
+// A corner with many tetrahedra may be left out, as one of at most three: four vertices of a tetrahedron do not all stand among three.
+fn is_crowded(out: usize, size: usize) -> bool
+    ensures { λ r. ⌜ (r ≡ true → out < 3) ⌝ }
+{
+    if out < 3 { 40 < size } else { false }
+}
+
+// The same of the tetrahedra around one vertex more, unless that is left out.
+fn visit(
+    labels: &[u16],
+    n: usize,
+    offsets: &[u16],
+    entries: &[u16],
+    v: Vertex,
+    lo: usize,
+    hi: usize,
+    out: usize,
+    c: &[u16],
+    quads: &[u8],
+) -> Step
+    requires { ⌜ Indexed (now labels) n (now offsets) (now entries) ⌝ }
+    ensures { λ r. ⌜ Visited (λ j. belongs (meshOf [] (now (labels .entry)) []) (quadsOf (now (quads .entry))) (now (c .entry)) (tetAt (now (labels .entry)) [] j)) lo hi out (around (now (labels .entry)) (v .0)) r ⌝ }
+{
+    let row = row_of(labels, n, offsets, entries, v);
+    let from = row.from;
+    let size = row.size;
+    if is_crowded(out, size) {
+        return Step {
+            least: hi,
+            out: out + 1,
+        };
+    }
+    let end = from + size;
+    let least = least_in(labels, &entries[from..end], lo, hi, c, quads);
+    Step { least, out }
+}
+
+// The next of the cell's tetrahedra, from lo on; the number of all where there is none. Each has a corner of the cell, so it is looked for
+// around these, but for three of the crowded ones.
+fn next(
+    labels: &[u16],
+    n: usize,
+    offsets: &[u16],
+    entries: &[u16],
+    lo: usize,
+    c: &[u16],
+    quads: &[u8],
+) -> usize
+    requires { ⌜ Indexed (now labels) n (now offsets) (now entries) ⌝ }
+    ensures { λ r. ⌜ NextOf (λ j. belongs (meshOf [] (now (labels .entry)) []) (quadsOf (now (quads .entry))) (now (c .entry)) (tetAt (now (labels .entry)) [] j)) lo (length (now (labels .entry)) / 4) r ⌝ }
+{
+    let mut least = labels.len() / 4;
+    let mut out: usize = 0;
+    let mut k = 0;
+    while k < c.len() {
+        let v = c[k];
+        let s = visit(
+            labels,
+            n,
+            offsets,
+            entries,
+            Vertex(v),
+            lo,
+            least,
+            out,
+            c,
+            quads,
+        );
+        least = s.least;
+        out = s.out;
+        k += 1;
+    }
+    least
+}
+
+// The tetrahedra of the cell on these corners, one after the other.
 pub fn find(
     labels: &[u16],
     n: usize,
@@ -113,12 +231,10 @@ pub fn find(
         count: 0,
         list: [65535; 25],
     };
-    let mut i = 0;
+    let mut i = next(labels, n, offsets, entries, 0, c, quads);
     while i < t {
-        if belongs_to(labels, Tet(i as u16), c, quads) {
-            found = push(found, Tet(i as u16));
-        }
-        i += 1;
+        found = push(found, Tet(i as u16));
+        i = next(labels, n, offsets, entries, i + 1, c, quads);
     }
     found
 }

@@ -79,9 +79,12 @@ framed f n t = go (lengthRight f) (countsRight f) (layoutRight f) refl refl refl
     go false b d p q r e = let z : _≡_ {A = ℕ} 0 1 = cc in absurd (omega arith)
 
 module _ {f : List ℕ} {n t : ℕ} (h : Framed f n t) where
-  -- the longest legal file has 26,648 bytes
+  -- no legal file has more than 26,648 bytes, and one with 512 vertices and 2,048 tetrahedra has so many
   pub longest : length f ≤ 26648
   longest = omega (arith, h .fewVertices, h .fewTets, h .whole)
+
+  pub longest-reached : n ≡ 512 → t ≡ 2048 → length f ≡ 26648
+  longest-reached p q = omega (arith, h .whole)
 
   -- both parts begin inside the file, and hold what the counts say
   pub vertex-room : 12 * n ≤ length (vertexPart f)

@@ -99,6 +99,11 @@ partsOf f = partsIn (tetPart (vertices f) f) (tets f)
 unfoldable pub coordinatesRight : List ℕ → Bool
 coordinatesRight f = all near (coordsOf f)
 
+-- the mesh of n vertices and t tetrahedra that the file holds
+abbrev pub meshIn : List ℕ → ℕ → ℕ → Mesh
+meshIn f n t =
+    meshOf (coordsIn (vertexPart f) (3 * n)) (labelsIn (tetPart n f) (4 * t)) (partsIn (tetPart n f) t)
+
 -- the mesh of the file
 abbrev pub decoded : List ℕ → Mesh
-decoded f = meshOf (coordsOf f) (labelsOf f) (partsOf f)
+decoded f = meshIn f (vertices f) (tets f)

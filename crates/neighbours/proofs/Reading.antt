@@ -1,15 +1,21 @@
 -- What stands where in a neighbour table, whatever follows it. Assumes nothing.
 use mathlib.Core.Path.{_≡_, refl, sym, _∙_, ap}
+use mathlib.Core.Bool.{true, false}
 use mathlib.Core.List.{List, [], _∷_, _++_, map, append-assoc}
 use Prim.Native.Nat.{ℕ, zero, suc, _+_, _-_, _≤_, _<_}
 use native.Mathlib.Nat.{zero-add, add-assoc}
 use native.Mathlib.Omega.{arith}
+use lib.Dec.{eqb}
 use lib.ListN.{length, getD, take, drop, length-append, List·getD-append}
 use lib.Seq.{drop-at, take-at, getD-at, getD-drop}
 use Rattle.base.specs.Lists.{spread, from, upTo}
-use Rattle.base.proofs.Runs.{from-add, spread-append, map-append}
-use Rattle.neighbours.specs.Table.{rowsOf, offsets, tableBy}
-use Rattle.neighbours.proofs.Rows.{offs, offs-all, length-offs, rows-more}
+use Rattle.base.proofs.Runs.{from-add, spread-append, map-append, place-of, kept-rises}
+use Rattle.base.proofs.Members.{keep-has, from-has}
+use Rattle.space.specs.Mesh.{Mesh, together}
+use Rattle.neighbours.specs.Table.{rowOf, rowsOf, offsets, tableBy, neighboursOf, tableOf}
+use Rattle.neighbours.specs.Marks.{nearBy}
+use Rattle.neighbours.specs.Reading.{Tabled, RowOf}
+use Rattle.neighbours.proofs.Rows.{offs, offs-all, length-offs, rows-more, rows-up, rows-le, length-table}
 
 module _ (row : ℕ → List ℕ) (n : ℕ) (rest : List ℕ) where
   abbrev table : List ℕ
@@ -55,3 +61,46 @@ module _ (row : ℕ → List ℕ) (n : ℕ) (rest : List ℕ) where
   entry-at u i h k =
       let d = rows-from u h in
       sym (getD-drop (n + 1 + length (rowsOf row u)) table i 0) ∙ ap (λ l. getD l i 0) (d .1) ∙ List·getD-append (row u) (d .0) 0 i k
+
+-- a slice that begins with the table
+module _ {m : Mesh} {n : ℕ} {xs : List ℕ} (d : Tabled m n xs) where
+  split : xs ≡ tableBy (neighboursOf m n) n ++ d .rest
+  unfolding tableOf
+  split = d .is
+
+  pub long : n + 1 + length (rowsOf (neighboursOf m n) n) ≤ length xs
+  long =
+      omega (arith, ap length split, length-append (tableBy (neighboursOf m n) n) (d .rest), length-table (neighboursOf m n) n)
+
+  pub starts : (u : ℕ) → u ≤ n → getD xs u 0 ≡ length (rowsOf (neighboursOf m n) u)
+  starts u h = ap (λ l. getD l u 0) split ∙ offset-at (neighboursOf m n) n (d .rest) u h
+
+  -- the row between two offsets
+  pub row-between : (v s e : ℕ) → v < n → s ≡ getD xs v 0 → e ≡ getD xs (v + 1) 0 → RowOf m n xs v (record { from = n + 1 + s; size = e - s })
+  row-between v s e h p q =
+      let row = neighboursOf m n in
+      let a : s ≡ length (rowsOf row v) = p ∙ starts v (omega arith) in
+      let b : e ≡ length (rowsOf row (v + 1)) = q ∙ starts (v + 1) (omega arith) in
+      let z : e - s ≡ length (row v) = omega (arith, rows-up row v) in
+      record {
+        inside = omega (arith, long, rows-up row v, rows-le row (v + 1) n (omega arith));
+        whole = λ l. z;
+        entries = λ l i k. ap (λ j. getD xs (n + 1 + j + i) 0) a ∙ ap (λ t. getD t (n + 1 + length (rowsOf row v) + i) 0) split ∙ entry-at row n (d .rest) v i h (omega arith);
+      }
+
+  -- the offsets rise
+  pub offsets-rise : (v : ℕ) → v < n → getD xs v 0 ≤ getD xs (v + 1) 0
+  offsets-rise v h =
+      omega (arith, starts v (omega arith), starts (v + 1) (omega arith), rows-up (neighboursOf m n) v)
+
+-- the row of u: it rises, and every other vertex below n that stands with u in a tetrahedron is in it
+module _ (m : Mesh) (n u : ℕ) where
+  pub row-rises : (i j : ℕ) → i < j → j < length (neighboursOf m n u) → getD (neighboursOf m n u) i 0 < getD (neighboursOf m n u) j 0
+  unfolding neighboursOf rowOf
+  row-rises i j = kept-rises (nearBy (λ u v. together m (u ∷ v ∷ [])) u) 0 n i j
+
+  pub row-has : (v : ℕ) → v < n → eqb u v ≡ false → together m (u ∷ v ∷ []) ≡ true → (i : ℕ) × (i < length (neighboursOf m n u)) × (getD (neighboursOf m n u) i 0 ≡ v)
+  unfolding neighboursOf rowOf
+  row-has v l e t =
+      place-of (neighboursOf m n u)
+      (keep-has (nearBy (λ u v. together m (u ∷ v ∷ [])) u) (upTo n) (from-has 0 n v (omega arith) (omega arith)) (rw (e, t)))

@@ -1,4 +1,5 @@
 // The neighbour table of a mesh, from the vertex numbers of its tetrahedra, written into a lent slice.
+use space::Vertex;
 ghost use mathlib.Core.Path.{_≡_};
 ghost use mathlib.Core.List.{[]};
 ghost use Prim.Native.Nat.{ℕ, _+_, _*_, _/_, _<_, _≤_};
@@ -7,7 +8,14 @@ ghost use Rattle.base.specs.Laid.{Laid};
 ghost use Rattle.space.specs.Arrays.{meshOf};
 ghost use Rattle.around.specs.Index.{Labelled};
 ghost use Rattle.neighbours.specs.Table.{rowOf, rowsOf, offsets, tableBy, filledOf, tableAfter};
+ghost use Rattle.neighbours.specs.Reading.{Tabled, RowOf};
 ghost use Rattle.neighbours.specs.Marks.{near, hit, Adds, point, line, square, Few, nearBy};
+
+// A row of the table: where it starts, and how many entries it has.
+pub struct Row {
+    pub from: usize,
+    pub size: usize,
+}
 
 pub enum Filled {
     Entries(usize),
@@ -180,4 +188,24 @@ pub fn fill(labels: &[u16], n: usize, table: &mut [u16]) -> Filled
     }
     put_table(&m, n, table);
     Filled::Entries(size)
+}
+
+// ---- reading a table
+
+// The row of a vertex: its neighbours, rising. It is empty where there is no such vertex.
+pub fn row_of(labels: &[u16], n: usize, table: &[u16], v: Vertex) -> Row
+    requires { ⌜ Tabled (meshOf [] (now labels) []) n (now table) ⌝ }
+    ensures { λ r. ⌜ RowOf (meshOf [] (now (labels .entry)) []) n (now (table .entry)) (v .0) r ⌝ }
+{
+    let u = v.0 as usize;
+    if u < n {
+        let start = wide(table[u]);
+        let end = wide(table[u + 1]);
+        Row {
+            from: n + 1 + start,
+            size: end - start,
+        }
+    } else {
+        Row { from: 0, size: 0 }
+    }
 }

@@ -1,9 +1,10 @@
--- Demand 2: each arrangement of corners that meets the conditions is listed once, whichever way it is turned, with exactly its own tetrahedra. Nothing else is listed.
+-- Each arrangement of corners that meets the conditions is listed once, whichever way it is turned, with exactly its own tetrahedra.
+-- Nothing else is listed.
 -- Assumes nothing.
-use Prim.Native.Nat.{ℕ, suc}
+use Prim.Native.Nat.{ℕ, zero, suc}
 use mathlib.Core.Path.{_≡_, refl, sym, _∙_, ap, ap₂, subst, fun-ext}
 use mathlib.Core.Logic.{_⊎_, ⊎-elim}
-use mathlib.Core.Bool.{Bool, true, false, not, _&&_, false≢true}
+use mathlib.Core.Bool.{Bool, true, false, not, cond, _&&_, false≢true}
 use mathlib.Core.List.{List, [], _∷_, _++_, map, append-assoc, List·Memᴰ, List·Memᴰ·head, List·Memᴰ·tail, List·Memᴰ·eq-of-singleton}
 use lib.Dec.{eqb, ltb}
 use lib.ListN.{length, getD, length-append, List·getD-append}
@@ -12,12 +13,13 @@ use native.Mathlib.Omega.{arith}
 use borrow.Author.Tests.{ltb-true, eqb-true, eq-eqb, not-true, eqb-false}
 use Rattle.base.specs.Lists.{all, every, keep, from, upTo, isIn, distinct, equal}
 use Rattle.templates.specs.Tables.{Place, Template, templates, at}
-use Rattle.space.specs.Mesh.{Mesh}
-use Rattle.cells.specs.Cells.{isTuple, isCell, numbersOf}
+use Rattle.space.specs.Mesh.{Mesh, Tetrahedron}
+use Rattle.cells.specs.Cells.{isTuple, isCell, belongs, numbersFrom, numbersOf}
 use Rattle.cells.specs.Full.{Cell, cell, allowed, grow, universe, cellsOf, fullList}
 use Rattle.templates.specs.Least.{rises, risesAt, isLeast}
-use Rattle.once.specs.Once.{isTurn, Once}
+use Rattle.once.specs.Once.{isTurn, none, Once}
 use Rattle.base.proofs.Lists.{both-left, both-right, all-at, any-at, keep-map, keep-spread}
+use Rattle.base.proofs.Loop.{listed as by-places}
 use Rattle.templates.proofs.Tests.{equal-eq, equal-refl, part, agree, both, any-from, covers, all-over, all-map, inRange, at-at, at-all, distinct-at, at-isIn}
 use Rattle.templates.proofs.Turns.{cornerTests, corners-all, turned-distinct, turned-length, size}
 use Rattle.once.proofs.Turned.{same}
@@ -326,6 +328,18 @@ module _ (m : Mesh) where
   turned : {t : Template} → List·Memᴰ t templates → {r : List ℕ} → List·Memᴰ r (t .turns) → (c : List ℕ) → length c ≡ t .corners → keep (isTurn t (at c r)) (fullList m) ≡ keep (isTurn t c) (fullList m)
   turned h k c l = ap (λ f. keep f (fullList m)) (fun-ext (is-turned h k c l))
 
--- demand 2
+-- ---- the tetrahedra's numbers
+
+module _ (m : Mesh) (t : Template) (c : List ℕ) where
+  kept : (f : ℕ → Tetrahedron) (i k : ℕ) → numbersFrom m t c i (map f (from i k)) ≡ keep (λ j. belongs m t c (f j)) (from i k)
+  unfolding numbersFrom keep
+  kept f i zero = refl
+  kept f i (suc k) = ap (λ r. cond (belongs m t c (f i)) (i ∷ r) r) (kept f (suc i) k)
+
+  own-numbers : numbersOf m t c ≡ keep (λ i. belongs m t c (getD (m .tets) i none)) (upTo (length (m .tets)))
+  unfolding numbersOf
+  own-numbers = ap (numbersFrom m t c 0) (sym (by-places none (m .tets))) ∙ kept (λ i. getD (m .tets) i none) 0 (length (m .tets))
+
+-- every mesh lists each of its cells once
 pub once : (m : Mesh) → Once m
-once m = record { listed = listed m; turned = turned m; entry = entry m }
+once m = record { listed = listed m; turned = turned m; entry = entry m; own = own-numbers m }

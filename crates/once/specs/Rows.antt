@@ -22,6 +22,7 @@ xyz a b c = record { x = pos a; y = pos b; z = pos c }
 abbrev pub tet : ℕ → ℕ → ℕ → ℕ → ℕ → Tetrahedron
 tet a b c d p = record { vertices = a ∷ b ∷ c ∷ d ∷ []; part = p }
 
+-- two tetrahedra on one facet
 abbrev pub meshP : Mesh
 meshP = record {
   points = xyz 0 0 0 ∷ xyz 2 0 0 ∷ xyz 2 2 0 ∷ xyz 0 2 0 ∷ xyz 0 0 2 ∷ [];
@@ -35,7 +36,7 @@ meshC part = record {
   tets = tet 0 1 2 5 0 ∷ tet 0 2 3 7 0 ∷ tet 0 5 7 4 0 ∷ tet 2 5 6 7 0 ∷ tet 0 5 2 7 part ∷ [];
 }
 
--- the same with vertex 1 lower and a boundary tetrahedron on that face
+-- P and C with vertex 1 lower, and under its face a boundary tetrahedron, the last
 abbrev pub meshP' : Mesh
 meshP' = record {
   points = xyz 0 0 1 ∷ xyz 2 0 0 ∷ xyz 2 2 1 ∷ xyz 0 2 1 ∷ xyz 0 0 3 ∷ [];

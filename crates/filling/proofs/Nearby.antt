@@ -1,0 +1,237 @@
+-- The next of a cell's tetrahedra, looked for around its corners. Assumes nothing.
+use mathlib.Core.Path.{_≡_, refl, sym, _∙_, ap}
+use mathlib.Core.Bool.{Bool, true, false, _&&_, _||_, not, false≢true}
+use mathlib.Core.Logic.{_⊎_, inl, inr, ⊎-elim}
+use mathlib.Core.List.{List, [], _∷_, List·Memᴰ, List·Memᴰ·head, List·Memᴰ·tail}
+use Prim.Native.Nat.{ℕ, zero, suc, _+_, _*_, _-_, _/_, _≤_, _<_}
+use native.Mathlib.Nat.{add-zero}
+use native.Mathlib.Decide.{decLt}
+use native.Mathlib.Omega.{arith}
+use borrow.Author.Tests.{eqb-true, eqb-false, eq-eqb}
+use lib.Dec.{eqb}
+use lib.ListN.{length, getD}
+use Rattle.base.specs.Lists.{all, any, keep, from, upTo, isIn, distinct}
+use Rattle.base.proofs.Bools.{and-left, and-right}
+use Rattle.base.proofs.Lists.{any-at}
+use Rattle.base.proofs.Members.{keep-has, from-has}
+use Rattle.space.specs.Arrays.{row4, tetAt, meshOf, around}
+use Rattle.around.specs.Index.{Labelled}
+use Rattle.cells.specs.Cells.{belongs}
+use Rattle.cells.specs.Rows.{quadsOf}
+use Rattle.filling.specs.declared.Tets.{Tets}
+use Rattle.filling.specs.declared.Step.{Step}
+use Rattle.filling.specs.Next.{Lesser, Least, Next, Visited, NextBut, NextOf}
+use Rattle.filling.proofs.Found.{FoundUp, keep-skip}
+
+-- where an element stands
+pub place-of : (xs : List ℕ) {x : ℕ} → List·Memᴰ x xs → (p : ℕ) × (p < length xs) × (getD xs p 0 ≡ x)
+place-of (y ∷ ys) (List·Memᴰ·head q) = (0, omega arith, sym q)
+place-of (y ∷ ys) (List·Memᴰ·tail h) = let r = place-of ys h in (suc (r .0), omega (arith, r .1), r .2)
+
+pub place-in : (x : ℕ) (xs : List ℕ) → isIn x xs ≡ true → (p : ℕ) × (p < length xs) × (getD xs p 0 ≡ x)
+place-in x xs e =
+    let m = any-at (eqb x) xs e in
+    let r = place-of xs (m .1) in (r .0, r .1, r .2 ∙ sym (eqb-true x (m .0) (m .2)))
+
+pub place-around : (ls : List ℕ) (v j : ℕ) → j < length ls / 4 → isIn v (row4 ls j) ≡ true → (p : ℕ) × (p < length (around ls v)) × (getD (around ls v) p 0 ≡ j)
+unfolding around
+place-around ls v j h t = place-of _ (keep-has (λ i. isIn v (row4 ls i)) (upTo (length ls / 4)) (from-has 0 (length ls / 4) j (omega arith) (omega arith)) t)
+
+-- ---- over a row
+
+pub least-start : {b : ℕ → Bool} {lo hi : ℕ} {row : List ℕ} → Least b lo hi row 0 hi
+least-start = record { le = omega arith; is = λ h. absurd (omega arith); none = λ i h. absurd (omega arith) }
+
+module _ {b : ℕ → Bool} {lo hi k r s : ℕ} {row : List ℕ} (a : Least b lo hi row k r) (l : Lesser (b (getD row k 0)) lo (getD row k 0) r s) where
+  is-next : Dec (s < r) → s < hi → (lo ≤ s) × (b s ≡ true)
+  is-next (yes h) g = let u = l .is h in (omega (arith, u .0, u .1 .0), ap b (u .0) ∙ u .1 .1)
+  is-next (no h) g = let e : s ≡ r = omega (arith, l .le) in rw e (a .is (omega (arith, l .le)))
+
+  none-next : (i : ℕ) → Dec (i < k) → i < k + 1 → lo ≤ getD row i 0 → getD row i 0 < s → b (getD row i 0) ≡ false
+  none-next i (yes h) g p q = a .none i h p (omega (arith, l .le))
+  none-next i (no h) g p q = let e : i ≡ k = omega arith in rw e (l .none (rw e at p) (rw e at q))
+
+  pub least-next : Least b lo hi row (k + 1) s
+  least-next = record {
+    le = omega (arith, a .le, l .le);
+    is = is-next (decLt s r);
+    none = λ i. none-next i (decLt i k);
+  }
+
+-- ---- over the corners
+
+pub next-start : {b : ℕ → Bool} {ls c : List ℕ} {lo hi : ℕ} → NextBut b ls c lo hi 0 0 hi
+next-start = record {
+  few = omega arith;
+  left = [];
+  long = refl;
+  next = record { le = omega arith; is = λ h. absurd (omega arith); none = λ i j h. absurd (omega arith) };
+}
+
+or-none : (a b : Bool) → (a || b) ≡ false → b ≡ false
+or-none true b e = absurd (false≢true (sym e))
+or-none false b e = e
+
+module _ {b : ℕ → Bool} {ls c out : List ℕ} {lo hi k r : ℕ} (a : Next b ls c lo hi k out r) where
+  -- a vertex left out
+  none-out : (i j : ℕ) → Dec (i < k) → i < k + 1 → isIn (getD c i 0) (getD c k 0 ∷ out) ≡ false → isIn (getD c i 0) (row4 ls j) ≡ true → lo ≤ j → j < r → b j ≡ false
+  none-out i j (yes h) g o t p q = a .none i j h (or-none (eqb (getD c i 0) (getD c k 0)) (isIn (getD c i 0) out) o) t p q
+  none-out i j (no h) g o t p q =
+      let e : getD c i 0 ≡ getD c k 0 = ap (λ n. getD c n 0) (omega arith) in
+      let f : isIn (getD c i 0) (getD c k 0 ∷ out) ≡ true = rw (eq-eqb (getD c i 0) (getD c k 0) e) in
+      absurd (false≢true (sym o ∙ f))
+
+  next-out : Next b ls c lo hi (k + 1) (getD c k 0 ∷ out) r
+  next-out = record { le = a .le; is = a .is; none = λ i j. none-out i j (decLt i k) }
+
+  module _ {s : ℕ} (top : hi ≤ length ls / 4) (l : Least b lo r (around ls (getD c k 0)) (length (around ls (getD c k 0))) s) where
+    is-corner : Dec (s < r) → s < hi → (lo ≤ s) × (b s ≡ true)
+    is-corner (yes h) g = l .is h
+    is-corner (no h) g = let e : s ≡ r = omega (arith, l .le) in rw e (a .is (omega (arith, l .le)))
+
+    none-corner : (i j : ℕ) → Dec (i < k) → i < k + 1 → isIn (getD c i 0) out ≡ false → isIn (getD c i 0) (row4 ls j) ≡ true → lo ≤ j → j < s → b j ≡ false
+    none-corner i j (yes h) g o t p q = a .none i j h o t p (omega (arith, l .le))
+    none-corner i j (no h) g o t p q =
+        let e : i ≡ k = omega arith in
+        let w = place-around ls (getD c k 0) j (omega (arith, top, a .le, l .le)) (rw e at t) in
+        ap b (sym (w .2)) ∙ l .none (w .0) (w .1) (omega (arith, w .2)) (omega (arith, w .2))
+
+    next-corner : Next b ls c lo hi (k + 1) out s
+    next-corner = record {
+      le = omega (arith, a .le, l .le);
+      is = is-corner (decLt s r);
+      none = λ i j. none-corner i j (decLt i k);
+    }
+
+pub next-visit : {b : ℕ → Bool} {ls c : List ℕ} {lo hi k out r : ℕ} {s : Step} → hi ≤ length ls / 4 → NextBut b ls c lo hi k out r → Visited b lo r out (around ls (getD c k 0)) s → NextBut b ls c lo hi (k + 1) (s .out) (s .least)
+next-visit {c = c} {k = k} top a v =
+    ⊎-elim
+    (λ h. record { few = omega (arith, h .0, h .1 .0); left = getD c k 0 ∷ a .left; long = omega (arith, a .long, h .1 .0); next = rw (h .1 .1) (next-out (a .next)) })
+    (λ h. record { few = omega (arith, a .few, h .0); left = a .left; long = a .long ∙ sym (h .0); next = next-corner (a .next) top (h .1) })
+    (v .is)
+
+three : (p q r : ℕ) → p < 3 → q < 3 → r < 3 → (p ≡ q → ⊥) → (p ≡ r → ⊥) → (q ≡ r → ⊥) → p + q + r ≡ 3
+three p q r a b c d e f = omega arith
+
+same-sum : (p q r s : ℕ) → p + q + r ≡ 3 → p + q + s ≡ 3 → r ≡ s
+same-sum p q r s e f = omega arith
+
+pigeon : (p q r s : ℕ) → p < 3 → q < 3 → r < 3 → s < 3 → (p ≡ q → ⊥) → (p ≡ r → ⊥) → (p ≡ s → ⊥) → (q ≡ r → ⊥) → (q ≡ s → ⊥) → (r ≡ s → ⊥) → ⊥
+pigeon p q r s a b c d pq pr ps qr qs rs = rs (same-sum p q r s (three p q r a b c pq pr qr) (three p q s a b d pq ps qs))
+
+lt-le : {p n : ℕ} → p < n → n ≤ 3 → p < 3
+lt-le h k = omega arith
+
+-- four different numbers do not all stand among three
+apart : (xs : List ℕ) {a b p q : ℕ} → eqb a b ≡ false → getD xs p 0 ≡ a → getD xs q 0 ≡ b → p ≡ q → ⊥
+apart xs {a} {b} {p} {q} e f g h = eqb-false a b e (sym f ∙ ap (λ n. getD xs n 0) h ∙ g)
+
+not-false-of : (a : Bool) → not a ≡ true → a ≡ false
+not-false-of true e = sym e
+not-false-of false e = refl
+
+or-first : (a b : Bool) → (a || b) ≡ false → a ≡ false
+or-first true b e = e
+or-first false b e = refl
+
+pub four : (xs : List ℕ) (w x y z : ℕ) → length xs ≤ 3 → distinct (w ∷ x ∷ y ∷ z ∷ []) ≡ true → isIn w xs ≡ true → isIn x xs ≡ true → isIn y xs ≡ true → isIn z xs ≡ true → ⊥
+four xs w x y z h d iw ix iy iz =
+    let pw = place-in w xs iw in
+    let px = place-in x xs ix in
+    let py = place-in y xs iy in
+    let pz = place-in z xs iz in
+    let dw = not-false-of (eqb w x || (eqb w y || (eqb w z || false))) (and-left _ _ d) in
+    let d2 = and-right (not (eqb w x || (eqb w y || (eqb w z || false)))) (distinct (x ∷ y ∷ z ∷ [])) d in
+    let dx = not-false-of (eqb x y || (eqb x z || false)) (and-left _ _ d2) in
+    let d3 = and-right (not (eqb x y || (eqb x z || false))) (distinct (y ∷ z ∷ [])) d2 in
+    let dy = not-false-of (eqb y z || false) (and-left _ _ d3) in
+    let n1 = apart xs (or-first (eqb w x) _ dw) (pw .2) (px .2) in
+    let n2 = apart xs (or-first (eqb w y) _ (or-none (eqb w x) _ dw)) (pw .2) (py .2) in
+    let n3 = apart xs (or-first (eqb w z) _ (or-none (eqb w y) _ (or-none (eqb w x) _ dw))) (pw .2) (pz .2) in
+    let n4 = apart xs (or-first (eqb x y) _ dx) (px .2) (py .2) in
+    let n5 = apart xs (or-first (eqb x z) _ (or-none (eqb x y) _ dx)) (px .2) (pz .2) in
+    let n6 = apart xs (or-first (eqb y z) _ dy) (py .2) (pz .2) in
+    pigeon (pw .0) (px .0) (py .0) (pz .0) (lt-le (pw .1) h) (lt-le (px .1) h) (lt-le (py .1) h) (lt-le (pz .1) h) n1 n2 n3 n4 n5 n6
+
+or-true : (a : Bool) → (a || true) ≡ true
+or-true true = refl
+or-true false = refl
+
+-- each of four numbers is one of the four
+in-here : (w x y z : ℕ) → (isIn w (w ∷ x ∷ y ∷ z ∷ []) ≡ true) × ((isIn x (w ∷ x ∷ y ∷ z ∷ []) ≡ true) × ((isIn y (w ∷ x ∷ y ∷ z ∷ []) ≡ true) × (isIn z (w ∷ x ∷ y ∷ z ∷ []) ≡ true)))
+in-here w x y z = (
+  rw (eq-eqb w w refl),
+  (
+    rw (eq-eqb x x refl) (or-true (eqb x w)),
+    (
+      rw (eq-eqb y y refl, or-true (eqb y x)) (or-true (eqb y w)),
+      rw (eq-eqb z z refl, or-true (eqb z y), or-true (eqb z x)) (or-true (eqb z w)),
+    ),
+  ),
+)
+
+-- every tetrahedron of the cell has a corner of it that is not left out
+module _ (ls qs c : List ℕ) (n : ℕ) (w : Labelled ls n) where
+  abbrev test : ℕ → Bool
+  test j = belongs (meshOf [] ls []) (quadsOf qs) c (tetAt ls [] j)
+
+  pub next-done : {lo k out r : ℕ} → NextBut test ls c lo (length ls / 4) k out r → length c ≤ k → NextOf test lo (length ls / 4) r
+  unfolding belongs
+  next-done {lo} {k} {out} {r} a h =
+      record {
+        le = a .next .le;
+        from = up (decLt r (length ls / 4));
+        is = λ g. a .next .is g .1;
+        none = λ j p q. go j p q (test j) refl;
+      }
+    where
+      up : Dec (r < length ls / 4) → lo ≤ length ls / 4 → lo ≤ r
+      up (yes g) l = a .next .is g .0
+      up (no g) l = omega (arith, a .next .le)
+
+      -- a vertex of it that is not left out settles it
+      seen : (j x : ℕ) → lo ≤ j → j < r → isIn x (row4 ls j) ≡ true → isIn x c ≡ true → (u : Bool) → isIn x (a .left) ≡ u → (test j ≡ false) ⊎ (isIn x (a .left) ≡ true)
+      seen j x p q m i true e = inr e
+      seen j x p q m i false e =
+          let y = place-in x c i in
+          inl (a .next .none (y .0) j (omega (arith, y .1)) (rw (y .2) e) (rw (y .2) m) p q)
+
+      go : (j : ℕ) → lo ≤ j → j < r → (u : Bool) → test j ≡ u → test j ≡ false
+      go j p q false e = e
+      go j p q true e =
+          let v0 = getD ls (4 * j) 0 in
+          let v1 = getD ls (4 * j + 1) 0 in
+          let v2 = getD ls (4 * j + 2) 0 in
+          let v3 = getD ls (4 * j + 3) 0 in
+          let al = and-left (all (λ v. isIn v c) (row4 ls j)) _ e in
+          let i0 = and-left (isIn v0 c) (all (λ v. isIn v c) (v1 ∷ v2 ∷ v3 ∷ [])) al in
+          let a1 = and-right (isIn v0 c) (all (λ v. isIn v c) (v1 ∷ v2 ∷ v3 ∷ [])) al in
+          let i1 = and-left (isIn v1 c) (all (λ v. isIn v c) (v2 ∷ v3 ∷ [])) a1 in
+          let a2 = and-right (isIn v1 c) (all (λ v. isIn v c) (v2 ∷ v3 ∷ [])) a1 in
+          let i2 = and-left (isIn v2 c) (all (λ v. isIn v c) (v3 ∷ [])) a2 in
+          let i3 = and-left (isIn v3 c) true (and-right (isIn v2 c) (all (λ v. isIn v c) (v3 ∷ [])) a2) in
+          let m0 = in-here v0 v1 v2 v3 in
+          ⊎-elim (λ f. f) (λ o0.
+          ⊎-elim (λ f. f) (λ o1.
+          ⊎-elim (λ f. f) (λ o2.
+          ⊎-elim (λ f. f) (λ o3.
+          absurd (four (a .left) v0 v1 v2 v3 (omega (arith, a .few, a .long)) (w .apart j (omega (arith, a .next .le))) o0 o1 o2 o3))
+          (seen j v3 p q (m0 .1 .1 .1) i3 (isIn v3 (a .left)) refl))
+          (seen j v2 p q (m0 .1 .1 .0) i2 (isIn v2 (a .left)) refl))
+          (seen j v1 p q (m0 .1 .0) i1 (isIn v1 (a .left)) refl))
+          (seen j v0 p q (m0 .0) i0 (isIn v0 (a .left)) refl)
+
+-- ---- one after the other
+
+keep-gap : (b : ℕ → Bool) (lo d : ℕ) → ((j : ℕ) → lo ≤ j → j < lo + d → b j ≡ false) → keep b (upTo (lo + d)) ≡ keep b (upTo lo)
+keep-gap b lo zero f = rw (add-zero lo)
+keep-gap b lo (suc d) f =
+    let e : lo + suc d ≡ (lo + d) + 1 = omega arith in
+    ap (λ n. keep b (upTo n)) e ∙ keep-skip b (lo + d) (f (lo + d) (omega arith) (omega arith)) ∙ keep-gap b lo d (λ j p q. f j p (omega arith))
+
+pub found-gap : {b : ℕ → Bool} {lo hi r : ℕ} {f : Tets} → FoundUp b lo f → lo ≤ hi → NextOf b lo hi r → FoundUp b r f
+found-gap {b} {lo} {hi} {r} {f} h l a =
+    let p = a .from l in
+    let e : lo + (r - lo) ≡ r = omega arith in
+    let g : keep b (upTo r) ≡ keep b (upTo lo) = rw e at (keep-gap b lo (r - lo) (λ j u v. a .none j u (omega arith))) in
+    record { low = omega (arith, h .low); found = rw g (h .found) }

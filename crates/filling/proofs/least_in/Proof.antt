@@ -1,0 +1,63 @@
+-- `filling::least_in` meets its contract. Assumes nothing.
+use mathlib.Core.Path.{_≡_}
+use mathlib.Core.List.{[]}
+use Prim.Native.Nat.{_-_, _≤_}
+use lib.ListN.{length}
+use native.Mathlib.Omega.{arith}
+use Rattle.space.specs.Arrays.{tetAt, meshOf}
+use Rattle.cells.specs.Cells.{belongs}
+use Rattle.cells.specs.Rows.{quadsOf}
+use Rattle.filling.specs.Next.{Least}
+use Rattle.filling.proofs.Nearby.{least-start, least-next}
+use Rattle.filling.proofs.least_in.Statement.{statement}
+use Rattle.filling.proofs.least_in.Tie as tie
+
+abbrev Inv-loop : tie.InvT-loop
+Inv-loop labels row lo hi c quads least₀ k₀ least k = (k ≤ length row) × Least (λ j. belongs (meshOf [] labels []) (quadsOf quads) c (tetAt labels [] j)) lo hi row k least
+
+abbrev μ-loop : tie.MeasureT-loop
+μ-loop labels row lo hi c quads least₀ k₀ least k = length row - k
+
+loop-holds : tie.Need-loop-holds Inv-loop μ-loop
+loop-holds c = (omega arith, least-start)
+
+mul-i : tie.Need-mul-i Inv-loop μ-loop
+mul-i c = omega arith
+
+shared-slice-read-i : tie.Need-shared-slice-read-i Inv-loop μ-loop
+shared-slice-read-i c = omega arith
+
+lesser-requires : tie.Need-lesser-requires Inv-loop μ-loop
+lesser-requires c κs =
+    let s = c .before .before .before .before .before .before .before in
+    omega (arith, s .pre .below (c .before .before .loop .k) (omega arith))
+
+add-k : tie.Need-add-k Inv-loop μ-loop
+add-k c = omega arith
+
+loop-less : tie.Need-loop-less Inv-loop μ-loop
+loop-less c = omega arith
+
+loop-again : tie.Need-loop-again Inv-loop μ-loop
+loop-again c = (omega arith, least-next (c .before .before .before .loop .inv .1) (c .lesser .ensures))
+
+returns : tie.Need-returns Inv-loop μ-loop
+returns c =
+    let s = c .before .before .before .before .before .before in
+    let e : c .before .loop .k ≡ length (s .args .row .now) = omega arith in
+    rw e at (c .before .loop .inv .1)
+
+pub least-in-spec : {M : Type 1} → statement M
+least-in-spec =
+    tie.close
+    (tie.spec
+    Inv-loop
+    μ-loop
+    loop-holds
+    mul-i
+    shared-slice-read-i
+    lesser-requires
+    add-k
+    loop-less
+    loop-again
+    returns)

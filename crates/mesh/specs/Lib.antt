@@ -1,0 +1,4 @@
+pub mod Check
+pub mod View
+pub mod Reads
+pub mod Rows

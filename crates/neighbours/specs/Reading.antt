@@ -1,0 +1,20 @@
+-- What a reader of a neighbour table relies on.
+-- Assumes nothing.
+use Prim.Native.Nat.{ℕ, _+_, _<_, _≤_}
+use mathlib.Core.Path.{_≡_}
+use mathlib.Core.List.{List, _++_}
+use lib.ListN.{length, getD}
+use Rattle.space.specs.Mesh.{Mesh}
+use Rattle.neighbours.specs.declared.Row.{Row}
+use Rattle.neighbours.specs.Table.{neighboursOf, tableOf}
+
+-- the slice begins with the neighbour table of n vertices
+pub record Tabled (m : Mesh) (n : ℕ) (table : List ℕ) : Type 0 where
+  pub rest : List ℕ
+  pub is : table ≡ tableOf m n ++ rest
+
+-- where the row of v stands in the table
+pub record RowOf (m : Mesh) (n : ℕ) (table : List ℕ) (v : ℕ) (r : Row) : Type 0 where
+  pub inside : r .from + r .size ≤ length table
+  pub whole : v < n → r .size ≡ length (neighboursOf m n v)
+  pub entries : v < n → (i : ℕ) → i < r .size → getD table (r .from + i) 0 ≡ getD (neighboursOf m n v) i 0

@@ -1,0 +1,5 @@
+pub mod Levels
+pub mod Prune
+pub mod Joined
+pub mod Tables
+pub mod Scanning

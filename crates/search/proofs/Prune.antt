@@ -1,0 +1,187 @@
+-- A tuple that is listed passes the test of every level: pruning leaves out no cell.
+-- Assumes nothing.
+use Prim.Native.Nat.{ℕ, zero, suc, _+_, _/_, _<_, _≤_}
+use mathlib.Core.Path.{_≡_, refl, sym, _∙_, ap, ap₂, fun-ext}
+use mathlib.Core.Bool.{Bool, true, false, cond, not, _&&_, _||_, false≢true}
+use mathlib.Core.List.{List, [], _∷_, _++_, map, append-assoc, append-nil}
+use native.Mathlib.Omega.{arith}
+use borrow.Author.Tests.{ltb-true}
+use lib.Dec.{eqb, ltb}
+use lib.IntN.{ℤ}
+use lib.ListN.{length, getD, take}
+use Rattle.base.specs.Lists.{all, any, from, upTo, isIn}
+use Rattle.base.proofs.Lists.{both-left, both-right, all-at, all-from}
+use Rattle.base.proofs.Loop.{getD-up, listed}
+use Rattle.base.proofs.Members.{from-at}
+use Rattle.base.proofs.Runs.{any-map}
+use Rattle.space.specs.Mesh.{Mesh, together, holds}
+use Rattle.space.specs.Box.{isAbove0}
+use Rattle.space.specs.Arrays.{tetAt, meshOf}
+use Rattle.templates.specs.Tables.{Template, Place, place, hexahedron, prism, pyramid, templateOf, at}
+use Rattle.cells.specs.Cells.{first, second, boxAt, isTuple, hasEdges, isFacet, isSplit, hasFaces, isSound, isFilled, isOnePart, isCell}
+use Rattle.cells.specs.Full.{allowed}
+use Rattle.cells.specs.Rows.{threes, fours}
+use Rattle.portions.specs.Tuples.{front, Agree}
+use Rattle.rule.specs.Rule.{goesOn, isLeaf}
+use Rattle.rule.proofs.OneKind.{Flat, flat-hexahedron, flat-prism, flat-pyramid, leaf-goes}
+use Rattle.search.specs.Levels.{base, triangles, trianglesAt, quads, quadsAt, triples, triplesAt, lesser, joined, part, levelOf}
+use Rattle.search.specs.Prune.{comesAfter, fits}
+use Rattle.search.proofs.Levels.{isRow, Right, right-at, run-same, vertex-same, row-same, rows-pass}
+
+-- ── least form, place by place ──
+
+-- what is allowed at place d
+module _ (n : ℕ) where
+  pub goes-at : (ps : List Place) (s u : List ℕ) → goesOn n ps s u ≡ true → (d : ℕ) → d < length ps → (getD u d 0 < n) × (allowed (getD ps d (place [] [])) (s ++ take d u) (getD u d 0) ≡ true)
+  unfolding goesOn
+  goes-at [] s u e d h = absurd (omega arith)
+  goes-at (p ∷ ps) s [] e d h = absurd (false≢true e)
+  goes-at (p ∷ ps) s (v ∷ u) e zero h =
+      (ltb-true v n (both-left (ltb v n) _ e), ap (λ l. allowed p l v) (append-nil s) ∙ both-left (allowed p s v) _ (both-right (ltb v n) _ e))
+  goes-at (p ∷ ps) s (v ∷ u) e (suc d) h =
+      let r = goes-at ps (s ++ (v ∷ [])) u (both-right (allowed p s v) _ (both-right (ltb v n) _ e)) d (omega arith) in
+      (r .0, ap (λ l. allowed (getD ps d (place [] [])) l (getD u d 0)) (sym (append-assoc s (v ∷ []) (take d u))) ∙ r .1)
+
+take-run : (f : ℕ → ℕ) (i k d : ℕ) → d ≤ k → take d (map f (from i k)) ≡ map f (from i d)
+take-run f i k zero h = refl
+take-run f i zero (suc d) h = absurd (omega arith)
+take-run f i (suc k) (suc d) h = ap (λ l. f i ∷ l) (take-run f (suc i) k d (omega arith))
+
+-- ── the test of a new vertex, as the code makes it ──
+
+pub take-front : (d : ℕ) (s : List ℕ) → d ≤ length s → take d s ≡ front d s
+take-front d s h = ap (take d) (sym (listed 0 s)) ∙ take-run (λ i. getD s i 0) 0 (length s) d h
+
+module _ (x d : ℕ) (s : List ℕ) (h : d ≤ length s) {r : Bool} (e : r ≡ isIn (getD s d 0) (take d s)) where
+  found : r ≡ isIn (getD s d 0) (front d s)
+  found = e ∙ ap (isIn (getD s d 0)) (take-front d s h)
+
+  pub comes-not : r ≡ true → false ≡ comesAfter x d s
+  unfolding comesAfter
+  comes-not t = rw (sym found ∙ t)
+
+  pub comes-new : {q : Bool} → r ≡ false → q ≡ all (λ k. ltb (getD s k 0) (getD s d 0)) (upTo (getD lesser x 0)) → q ≡ comesAfter x d s
+  unfolding comesAfter
+  comes-new {q} t a = a ∙ rw (sym found ∙ t)
+
+pub flat-at : (k : ℕ) → Flat (templateOf k)
+flat-at k = go (eqb k 8) (eqb k 6)
+  where
+    go : (a b : Bool) → Flat (cond a hexahedron (cond b prism pyramid))
+    go true b = flat-hexahedron
+    go false true = flat-prism
+    go false false = flat-pyramid
+
+-- ── the mesh by its arrays ──
+
+-- which vertices stand together does not depend on points and parts
+pub together-bare : (zs : List ℤ) (ls ps vs : List ℕ) → together (meshOf zs ls ps) vs ≡ together (meshOf [] ls []) vs
+unfolding together
+together-bare zs ls ps vs =
+    any-map (holds vs) (tetAt ls ps) (upTo (length ls / 4)) ∙ sym (any-map (holds vs) (tetAt ls []) (upTo (length ls / 4)))
+
+-- a quadrilateral of four vertices is split, where b says which triangles are facets
+abbrev splitBy : (List ℕ → Bool) → ℕ → ℕ → ℕ → ℕ → Bool
+splitBy b w x y z =
+    all b ((w ∷ x ∷ y ∷ []) ∷ (w ∷ y ∷ z ∷ []) ∷ []) || all b ((w ∷ x ∷ z ∷ []) ∷ (x ∷ y ∷ z ∷ []) ∷ [])
+
+-- ── a listed tuple ──
+
+module _ (zs : List ℤ) (ls ps : List ℕ) (k : ℕ) (s : List ℕ) (leaf : isLeaf (meshOf zs ls ps) (templateOf k) s ≡ true) where
+  abbrev m : Mesh
+  m = meshOf zs ls ps
+
+  abbrev t : Template
+  t = templateOf k
+
+  abbrev c : List ℕ
+  c = at s (t .places)
+
+  both : (goesOn (length (m .points)) (t .search) [] (front (t .corners) s) && isCell m t c) ≡ true
+  both = sym (leaf-goes m t (flat-at k) s) ∙ leaf
+
+  goes : goesOn (length (m .points)) (t .search) [] (front (t .corners) s) ≡ true
+  goes = both-left (goesOn (length (m .points)) (t .search) [] (front (t .corners) s)) _ both
+
+  cell : isCell m t c ≡ true
+  cell = both-right (goesOn (length (m .points)) (t .search) [] (front (t .corners) s)) _ both
+
+  sound : isSound m t c ≡ true
+  unfolding isCell
+  sound = both-right (isTuple m t c && hasEdges m t c && hasFaces m t c) _ (both-left (isTuple m t c && hasEdges m t c && hasFaces m t c && isSound m t c) _ (both-left (isTuple m t c && hasEdges m t c && hasFaces m t c && isSound m t c && isFilled m t c) _ cell))
+
+  firstThree : (isTuple m t c && hasEdges m t c && hasFaces m t c) ≡ true
+  unfolding isCell
+  firstThree = both-left (isTuple m t c && hasEdges m t c && hasFaces m t c) _ (both-left (isTuple m t c && hasEdges m t c && hasFaces m t c && isSound m t c) _ (both-left (isTuple m t c && hasEdges m t c && hasFaces m t c && isSound m t c && isFilled m t c) _ cell))
+
+  faces : hasFaces m t c ≡ true
+  faces = both-right (isTuple m t c && hasEdges m t c) _ firstThree
+
+  pub leaf-edges : hasEdges (meshOf zs ls ps) (templateOf k) (at s (templateOf k .places)) ≡ true
+  leaf-edges = both-right (isTuple m t c) _ (both-left (isTuple m t c && hasEdges m t c) _ firstThree)
+
+  module _ (d : ℕ) (h : d < t .corners) where
+    at-place : (getD s d 0 < length (m .points)) × (allowed (getD (t .search) d (place [] [])) (front d s) (getD s d 0) ≡ true)
+    at-place =
+        let r = goes-at (length (m .points)) (t .search) [] (front (t .corners) s) goes d (omega (arith, flat-at k .placed)) in
+        let e : getD (front (t .corners) s) d 0 ≡ getD s d 0 = getD-up (λ i. getD s i 0) 0 (t .corners) d h in
+        let f : take d (front (t .corners) s) ≡ front d s = take-run (λ i. getD s i 0) 0 (t .corners) d (omega arith) in
+        (omega (arith, r .0), ap₂ (allowed (getD (t .search) d (place [] []))) (sym f) (sym e) ∙ r .1)
+
+    -- its entries are vertices of the mesh
+    pub leaf-small : getD s d 0 < length (m .points)
+    leaf-small = at-place .0
+
+    pub leaf-allowed : allowed (getD (templateOf k .search) d (place [] [])) (front d s) (getD s d 0) ≡ true
+    leaf-allowed = at-place .1
+
+    module _ (u : List ℕ) (g : Agree (d + 1) u s) where
+      right : Right t (base k + d) d
+      right = right-at k d h
+
+      -- what is new stays new, and what is above stays above
+      comes : comesAfter (base k + d) d u ≡ true
+      unfolding comesAfter allowed
+      comes =
+          let v = getD s d 0 in
+          let p = getD (t .search) d (place [] []) in
+          let e : getD u d 0 ≡ v = g d (omega arith) in
+          let f : front d u ≡ front d s = run-same (λ i. getD u i 0) (λ i. getD s i 0) 0 d (λ i a b. g i (omega arith)) in
+          let n = both-left (not (isIn v (front d s))) _ (at-place .1) in
+          let b = both-right (not (isIn v (front d s))) _ (at-place .1) in
+          let b′ : all (λ i. ltb (getD (front d s) i 0) v) (upTo (getD lesser (base k + d) 0)) ≡ true = ap (all (λ i. ltb (getD (front d s) i 0) v)) (sym (right .ofBelow)) ∙ b in
+          rw (e, f, n) (all-from (λ i. ltb (getD u i 0) v) (upTo (getD lesser (base k + d) 0)) (λ i w.
+          let l : i < getD lesser (base k + d) 0 = omega (arith, from-at 0 (getD lesser (base k + d) 0) w .1) in
+          ap (λ y. ltb y v) (g i (omega (arith, right .ofLesser)) ∙ sym (getD-up (λ i. getD s i 0) 0 d i (omega (arith, right .ofLesser))))
+          ∙ all-at (λ i. ltb (getD (front d s) i 0) v) (upTo (getD lesser (base k + d) 0)) b′ w))
+
+      sound-here : isSound (meshOf zs [] []) (levelOf (base k + d)) u ≡ true
+      unfolding isSound boxAt
+      sound-here =
+          rows-pass (λ q. isAbove0 (boxAt m (at c q))) (λ r. isAbove0 (boxAt (meshOf zs [] []) (at u r))) 4 t d (fours (part triples triplesAt (base k + d))) (t .triples) (right .ofTriples) sound
+          (λ r q e. ap (λ vs. isAbove0 (boxAt m vs)) (sym (row-same 4 t d r q u s e g)) ∙ same-box (at u r))
+        where
+          same-box : (vs : List ℕ) → isAbove0 (boxAt (meshOf zs ls ps) vs) ≡ isAbove0 (boxAt (meshOf zs [] []) vs)
+          same-box vs = refl
+
+      facets : all (isFacet (meshOf [] ls []) (levelOf (base k + d)) u) (threes (part triangles trianglesAt (base k + d))) ≡ true
+      unfolding hasFaces isFacet
+      facets =
+          rows-pass (isFacet m t c) (isFacet (meshOf [] ls []) (levelOf (base k + d)) u) 3 t d (threes (part triangles trianglesAt (base k + d))) (t .triangles) (right .ofTriangles) (both-left (all (isFacet m t c) (t .triangles)) _ faces)
+          (λ r q e. ap (together m) (sym (row-same 3 t d r q u s e g)) ∙ together-bare zs ls ps (at u r))
+
+      splits : all (isSplit (meshOf [] ls []) (levelOf (base k + d)) u) (fours (part quads quadsAt (base k + d))) ≡ true
+      unfolding hasFaces isSplit isFacet first second
+      splits =
+          rows-pass (isSplit m t c) (isSplit (meshOf [] ls []) (levelOf (base k + d)) u) 4 t d (fours (part quads quadsAt (base k + d))) (t .quads) (right .ofQuads) (both-right (all (isFacet m t c) (t .triangles)) _ faces)
+          (λ r q e. same-split r q (vertex-same 4 t d r q u s e g))
+        where
+          same-split : (r q : List ℕ) → ((i : ℕ) → i < 4 → getD u (getD r i 0) 0 ≡ getD c (getD q i 0) 0) → isSplit (meshOf zs ls ps) (templateOf k) c q ≡ isSplit (meshOf [] ls []) (levelOf (base k + d)) u r
+          same-split r q f =
+              rw (sym (f 0 (omega arith)), sym (f 1 (omega arith)), sym (f 2 (omega arith)), sym (f 3 (omega arith)))
+              (ap (λ b. splitBy b (getD u (getD r 0 0) 0) (getD u (getD r 1 0) 0) (getD u (getD r 2 0) 0) (getD u (getD r 3 0) 0)) (fun-ext (together-bare zs ls ps)))
+
+      -- the test of level d, of any tuple that begins as this one does
+      pub passes : fits zs ls (base k + d) d u ≡ true
+      unfolding fits hasFaces
+      passes = rw (comes, sound-here, facets, splits)

@@ -1,0 +1,465 @@
+// The search for the next cell of a kind: the least tuple after a tuple that is a cell in least form, by an odometer over one tuple with a level.
+// A tuple is kept in search order; x is the row of a place in the tables of the levels.
+use cells::has_faces;
+use cells::is_sound;
+use neighbours::row_of;
+use space::Vertex;
+use templates::is_in;
+ghost use mathlib.Core.Path.{_≡_};
+ghost use mathlib.Core.Logic.{_⊎_};
+ghost use mathlib.Core.Bool.{_&&_};
+ghost use mathlib.Core.List.{List, []};
+ghost use Prim.Native.Nat.{ℕ, _+_, _<_, _≤_};
+ghost use lib.Dec.{leb, ltb};
+ghost use lib.ListN.{length, getD, set};
+ghost use Rattle.base.specs.Lists.{all, upTo};
+ghost use Rattle.space.specs.Arrays.{meshOf, Close};
+ghost use Rattle.around.specs.Index.{Indexed};
+ghost use Rattle.templates.specs.Tables.{templateOf};
+ghost use Rattle.cells.specs.Cells.{isSound, hasFaces};
+ghost use Rattle.cells.specs.Rows.{tabled};
+ghost use Rattle.portions.specs.Tuples.{Agree, Skips};
+ghost use Rattle.rule.specs.Rule.{isLeaf};
+ghost use Rattle.search.specs.Levels.{base, lesser, joined, part, levelOf};
+ghost use Rattle.search.specs.Prune.{comesAfter, fits};
+ghost use Rattle.search.specs.Ready.{Ready, Cut, Scanned};
+
+const TRIANGLES: [u8; 18] = [0, 1, 2, 3, 4, 5, 0, 1, 4, 1, 2, 4, 2, 3, 4, 0, 3, 4];
+
+const TRIANGLES_AT: [u8; 20] = [0, 0, 0, 0, 0, 0, 0, 0, 0, 0, 0, 3, 3, 3, 6, 6, 6, 6, 6, 18];
+
+const QUADS: [u8; 40] = [
+    0,
+    1,
+    4,
+    2,
+    0,
+    1,
+    5,
+    3,
+    0,
+    2,
+    6,
+    3,
+    3,
+    5,
+    7,
+    6,
+    2,
+    4,
+    7,
+    6,
+    1,
+    4,
+    7,
+    5,
+    0,
+    1,
+    4,
+    3,
+    4,
+    5,
+    2,
+    1,
+    0,
+    2,
+    5,
+    3,
+    0,
+    1,
+    2,
+    3,
+];
+
+const QUADS_AT: [u8; 20] = [
+    0,
+    0,
+    0,
+    0,
+    0,
+    4,
+    8,
+    12,
+    24,
+    24,
+    24,
+    24,
+    24,
+    28,
+    36,
+    36,
+    36,
+    36,
+    40,
+    40,
+];
+
+const TRIPLES: [u8; 72] = [
+    0,
+    1,
+    2,
+    3,
+    1,
+    4,
+    0,
+    5,
+    2,
+    0,
+    4,
+    6,
+    3,
+    6,
+    5,
+    0,
+    4,
+    2,
+    1,
+    7,
+    5,
+    3,
+    7,
+    1,
+    7,
+    5,
+    6,
+    4,
+    6,
+    7,
+    3,
+    2,
+    0,
+    1,
+    2,
+    3,
+    1,
+    2,
+    0,
+    4,
+    2,
+    0,
+    1,
+    5,
+    3,
+    5,
+    4,
+    0,
+    4,
+    3,
+    5,
+    1,
+    5,
+    4,
+    3,
+    2,
+    0,
+    1,
+    3,
+    4,
+    1,
+    2,
+    0,
+    4,
+    2,
+    3,
+    1,
+    4,
+    3,
+    0,
+    2,
+    4,
+];
+
+const TRIPLES_AT: [u8; 20] = [
+    0,
+    0,
+    0,
+    0,
+    4,
+    4,
+    8,
+    16,
+    32,
+    32,
+    32,
+    32,
+    36,
+    40,
+    56,
+    56,
+    56,
+    56,
+    56,
+    72,
+];
+
+const LESSER: [usize; 19] = [0, 1, 2, 2, 1, 1, 1, 1, 0, 1, 1, 1, 1, 1, 0, 1, 1, 1, 0];
+
+const JOINED: [usize; 19] = [0, 0, 0, 0, 1, 1, 2, 4, 0, 0, 0, 0, 1, 2, 0, 0, 1, 0, 0];
+
+fn wide(x: u16) -> usize
+    ensures { λ r. ⌜ (r ≡ x) × (r < 65536) ⌝ }
+{
+    x as usize
+}
+
+fn small(x: u8) -> usize
+    ensures { λ r. ⌜ r ≡ x ⌝ }
+{
+    x as usize
+}
+
+fn start_of(starts: &[u8], x: usize) -> usize
+    requires { ⌜ x < length (now starts) ⌝ }
+    ensures { λ r. ⌜ r ≡ getD (now (starts .entry)) x 0 ⌝ }
+{
+    small(starts[x])
+}
+
+fn corners_of(kind: u16) -> usize
+    ensures { λ r. ⌜ (r ≡ templateOf kind .corners) × ((5 ≤ r) × (r ≤ 8)) ⌝ }
+{
+    if kind == 8 {
+        return 8;
+    }
+    if kind == 6 { 6 } else { 5 }
+}
+
+// Where the rows of a kind begin in the tables of the levels.
+fn base_of(kind: u16) -> usize
+    ensures { λ r. ⌜ (r ≡ base kind) × (r ≤ 14) ⌝ }
+{
+    if kind == 8 {
+        return 0;
+    }
+    if kind == 6 { 8 } else { 14 }
+}
+
+// ---- the test of a level
+
+fn lesser_of(x: usize) -> usize
+    requires { ⌜ x < 19 ⌝ }
+    ensures { λ r. ⌜ (r ≡ getD lesser x 0) × (r ≤ 2) ⌝ }
+{
+    LESSER[x]
+}
+
+// The first entries, as many as asked, are below v.
+fn is_above(s: &[u16], count: usize, v: Vertex) -> bool
+    requires { ⌜ count ≤ length (now s) ⌝ }
+    ensures { λ r. ⌜ r ≡ all (λ k. ltb (getD (now (s .entry)) k 0) (v .0)) (upTo count) ⌝ }
+{
+    let y = v.0;
+    let mut k = 0;
+    while k < count {
+        if y <= s[k] {
+            return false;
+        }
+        k += 1;
+    }
+    true
+}
+
+// The vertex at place d is new, and above those that it must be above.
+fn comes_after(s: &[u16], x: usize, d: usize) -> bool
+    requires { ⌜ (x < 19) × ((d < length (now s)) × (2 ≤ length (now s))) ⌝ }
+    ensures { λ r. ⌜ r ≡ comesAfter x d (now (s .entry)) ⌝ }
+{
+    let v = s[d];
+    if is_in(v, &s[..d]) {
+        return false;
+    }
+    is_above(s, lesser_of(x), Vertex(v))
+}
+
+// The boxes of a part of the corner triples are above 0.
+fn sound_part(coords: &[i64], s: &[u16], rows: &[u8], starts: &[u8], x: usize) -> bool
+    requires { ⌜ Close (now coords) × Cut (now rows) (now starts) x ⌝ }
+    ensures { λ r. ⌜ r ≡ isSound (meshOf (now (coords .entry)) [] []) (tabled 0 [] [] [] (part (now (rows .entry)) (now (starts .entry)) x)) (now (s .entry)) ⌝ }
+{
+    let from = start_of(starts, x);
+    let end = start_of(starts, x + 1);
+    is_sound(coords, s, &rows[from..end])
+}
+
+// The faces of a part of the tables are faces of the mesh.
+fn faces_part(
+    labels: &[u16],
+    n: usize,
+    offsets: &[u16],
+    entries: &[u16],
+    s: &[u16],
+    triangles: &[u8],
+    tstarts: &[u8],
+    quads: &[u8],
+    qstarts: &[u8],
+    x: usize,
+) -> bool
+    requires { ⌜ Indexed (now labels) n (now offsets) (now entries) ⌝ }
+    requires { ⌜ Cut (now triangles) (now tstarts) x × Cut (now quads) (now qstarts) x ⌝ }
+    ensures { λ r. ⌜ r ≡ hasFaces (meshOf [] (now (labels .entry)) []) (tabled 0 [] (part (now (triangles .entry)) (now (tstarts .entry)) x) (part (now (quads .entry)) (now (qstarts .entry)) x) []) (now (s .entry)) ⌝ }
+{
+    let from = start_of(tstarts, x);
+    let end = start_of(tstarts, x + 1);
+    let low = start_of(qstarts, x);
+    let high = start_of(qstarts, x + 1);
+    has_faces(
+        labels,
+        n,
+        offsets,
+        entries,
+        s,
+        &triangles[from..end],
+        &quads[low..high],
+    )
+}
+
+fn sound_at(coords: &[i64], s: &[u16], x: usize) -> bool
+    requires { ⌜ Close (now coords) × (x < 19) ⌝ }
+    ensures { λ r. ⌜ r ≡ isSound (meshOf (now (coords .entry)) [] []) (levelOf x) (now (s .entry)) ⌝ }
+{
+    sound_part(coords, s, &TRIPLES, &TRIPLES_AT, x)
+}
+
+fn faces_at(labels: &[u16], n: usize, offsets: &[u16], entries: &[u16], s: &[u16], x: usize) -> bool
+    requires { ⌜ Indexed (now labels) n (now offsets) (now entries) × (x < 19) ⌝ }
+    ensures { λ r. ⌜ r ≡ hasFaces (meshOf [] (now (labels .entry)) []) (levelOf x) (now (s .entry)) ⌝ }
+{
+    faces_part(
+        labels,
+        n,
+        offsets,
+        entries,
+        s,
+        &TRIANGLES,
+        &TRIANGLES_AT,
+        &QUADS,
+        &QUADS_AT,
+        x,
+    )
+}
+
+// The tuple passes the test of the level of place d: the cheap parts first.
+fn passes(
+    coords: &[i64],
+    labels: &[u16],
+    n: usize,
+    offsets: &[u16],
+    entries: &[u16],
+    s: &[u16],
+    x: usize,
+    d: usize,
+) -> bool
+    requires { ⌜ Close (now coords) × Indexed (now labels) n (now offsets) (now entries) ⌝ }
+    requires { ⌜ (x < 19) × ((d < length (now s)) × (2 ≤ length (now s))) ⌝ }
+    ensures { λ r. ⌜ r ≡ fits (now (coords .entry)) (now (labels .entry)) x d (now (s .entry)) ⌝ }
+{
+    if !comes_after(s, x, d) {
+        return false;
+    }
+    if !sound_at(coords, s, x) {
+        return false;
+    }
+    faces_at(labels, n, offsets, entries, s, x)
+}
+
+// v is from lo on, and the tuple passes with it at place d.
+fn tries(
+    coords: &[i64],
+    labels: &[u16],
+    n: usize,
+    offsets: &[u16],
+    entries: &[u16],
+    t: [u16; 8],
+    x: usize,
+    d: usize,
+    lo: usize,
+    v: Vertex,
+) -> bool
+    requires { ⌜ Close (now coords) × Indexed (now labels) n (now offsets) (now entries) ⌝ }
+    requires { ⌜ (x < 19) × (d < 8) ⌝ }
+    ensures { λ r. ⌜ r ≡ (leb lo (v .0) && fits (now (coords .entry)) (now (labels .entry)) x d (set t d (v .0))) ⌝ }
+{
+    let y = v.0;
+    if wide(y) < lo {
+        return false;
+    }
+    let mut s = t;
+    s[d] = y;
+    passes(coords, labels, n, offsets, entries, &s, x, d)
+}
+
+// ---- the next candidate at a place
+
+// The first of a row from lo on with which the tuple passes, or n.
+fn scan(
+    coords: &[i64],
+    labels: &[u16],
+    n: usize,
+    offsets: &[u16],
+    entries: &[u16],
+    row: &[u16],
+    t: [u16; 8],
+    x: usize,
+    d: usize,
+    lo: usize,
+) -> usize
+    requires { ⌜ Close (now coords) × Indexed (now labels) n (now offsets) (now entries) ⌝ }
+    requires { ⌜ (x < 19) × (d < 8) ⌝ }
+    ensures { λ r. ⌜ Scanned (λ v. fits (now (coords .entry)) (now (labels .entry)) x d (set t d v)) (now (row .entry)) n lo r ⌝ }
+{
+    let mut i = 0;
+    while i < row.len() {
+        let v = row[i];
+        if tries(coords, labels, n, offsets, entries, t, x, d, lo, Vertex(v)) {
+            return wide(v);
+        }
+        i += 1;
+    }
+    n
+}
+
+fn joined_of(x: usize) -> usize
+    requires { ⌜ x < 19 ⌝ }
+    ensures { λ r. ⌜ (r ≡ getD joined x 0) × (r < 8) ⌝ }
+{
+    JOINED[x]
+}
+
+// Where to go on at place d from lo: a vertex with which the tuple passes, or n. No cell is left out before it.
+fn seek(
+    coords: &[i64],
+    labels: &[u16],
+    n: usize,
+    offsets: &[u16],
+    entries: &[u16],
+    table: &[u16],
+    kind: u16,
+    t: [u16; 8],
+    d: usize,
+    lo: usize,
+) -> usize
+    requires { ⌜ Ready (now coords) (now labels) n (now offsets) (now entries) (now table) ⌝ }
+    requires { ⌜ d < templateOf kind .corners ⌝ }
+    ensures { λ r. ⌜ ((ps : List ℕ) → Skips (isLeaf (meshOf (now (coords .entry)) (now (labels .entry)) ps) (templateOf kind)) t d n lo r) ⌝ }
+{
+    if d == 0 {
+        return lo;
+    }
+    let x = base_of(kind) + d;
+    let u = t[joined_of(x)];
+    let r = row_of(labels, n, table, Vertex(u));
+    let from = r.from;
+    let end = from + r.size;
+    scan(
+        coords,
+        labels,
+        n,
+        offsets,
+        entries,
+        &table[from..end],
+        t,
+        x,
+        d,
+        lo,
+    )
+}

@@ -1,0 +1,25 @@
+-- `verdict::judge_list` meets its contract. Assumes nothing.
+use mathlib.Core.Path.{sym, _∙_}
+use borrow.Author.Tests.{not-true, not-false}
+use borrow.Author.Needs.{needs}
+use Rattle.verdict.proofs.judge_list.Statement.{statement}
+use Rattle.verdict.proofs.judge_list.Tie as tie
+
+is-filled-requires : tie.Need-is-filled-requires
+is-filled-requires c κs = search needs
+
+returns : tie.Need-returns
+returns c = sym (rw (sym (c .before .is-filled .ensures) ∙ not-true _ (c .if1 .taken)))
+
+is-one-part-requires : tie.Need-is-one-part-requires
+is-one-part-requires c κs = search needs
+
+returns-2 : tie.Need-returns-2
+returns-2 c = sym (rw (sym (c .before .before .before .is-filled .ensures) ∙ not-false _ (c .before .before .if1 .left), sym (c .before .is-one-part .ensures) ∙ not-true _ (c .if2 .taken)))
+
+returns-3 : tie.Need-returns-3
+returns-3 c = sym (rw (sym (c .before .before .before .is-filled .ensures) ∙ not-false _ (c .before .before .if1 .left), sym (c .before .is-one-part .ensures) ∙ not-false _ (c .if2 .left)))
+
+pub judge-list-spec : {M : Type 1} → statement M
+judge-list-spec =
+    tie.close (tie.spec is-filled-requires returns is-one-part-requires returns-2 returns-3)

@@ -1,0 +1,94 @@
+-- `verdict::judge_many` meets its contract. Assumes nothing.
+use mathlib.Core.Path.{_≡_, refl, sym, _∙_}
+use mathlib.Core.List.{[]}
+use mathlib.Core.Logic.{⊎-elim}
+use Prim.Native.Nat.{_/_, _-_, _≤_}
+use lib.ListN.{length, length-take}
+use native.Mathlib.Omega.{arith}
+use Rattle.space.specs.Arrays.{tetAt, meshOf}
+use Rattle.cells.specs.Cells.{belongs}
+use Rattle.cells.specs.Rows.{quadsOf}
+use Rattle.verdict.proofs.Numbers.{Gathered, gather-start, gather-take, gather-skip, gathered-all, listed-within, last-are}
+use Rattle.verdict.proofs.judge_many.Statement.{statement}
+use Rattle.verdict.proofs.judge_many.Tie as tie
+
+abbrev Inv-loop : tie.InvT-loop
+Inv-loop labels parts c triangles quads within t list₀ k₀ i₀ list k i = (t ≡ length labels / 4) × ((i ≤ t) × Gathered (λ j. belongs (meshOf [] labels []) (quadsOf quads) c (tetAt labels [] j)) i list k)
+
+abbrev μ-loop : tie.MeasureT-loop
+μ-loop labels parts c triangles quads within t list₀ k₀ i₀ list k i = t - i
+
+loop-holds : tie.Need-loop-holds Inv-loop μ-loop
+loop-holds c = (refl, (omega arith, gather-start _))
+
+cast-t14 : tie.Need-cast-t14 Inv-loop μ-loop
+cast-t14 c = omega arith
+
+belongs-to-requires : tie.Need-belongs-to-requires Inv-loop μ-loop
+belongs-to-requires c κs = omega arith
+
+cast-list : tie.Need-cast-list Inv-loop μ-loop
+cast-list c = omega arith
+
+mul-list : tie.Need-mul-list Inv-loop μ-loop
+mul-list c = omega arith
+
+array-write-list : tie.Need-array-write-list Inv-loop μ-loop
+array-write-list c = omega arith
+
+add-k : tie.Need-add-k Inv-loop μ-loop
+add-k c = omega arith
+
+add-i : tie.Need-add-i Inv-loop μ-loop
+add-i c = omega arith
+
+loop-less : tie.Need-loop-less Inv-loop μ-loop
+loop-less c = omega arith
+
+loop-again : tie.Need-loop-again Inv-loop μ-loop
+loop-again c =
+    let b = sym (c .before .belongs-to .ensures) in
+    let g = c .before .before .before .loop .inv .1 .1 in
+    ⊎-elim
+    (λ w. (refl, (omega arith, rw (w .1, w .2) (gather-take g (omega arith) (b ∙ w .0 .taken)))))
+    (λ w. (refl, (omega arith, rw (w .1, w .2) (gather-skip g (b ∙ w .0 .left)))))
+    (c .if1 .came)
+
+array-share-prefix-list : tie.Need-array-share-prefix-list Inv-loop μ-loop
+array-share-prefix-list c = omega arith
+
+slice-aggregate-judge-list : tie.Need-slice-aggregate-judge-list Inv-loop μ-loop
+slice-aggregate-judge-list c = simp length-take (omega arith)
+
+judge-list-requires : tie.Need-judge-list-requires Inv-loop μ-loop
+judge-list-requires c κs =
+    let s = c .before .before .before .before .before .before .before .before .before in
+    listed-within (s .args .labels .now) (s .args .parts .now) (s .args .quads .now) (s .args .c .now)
+    (gathered-all (s .args .labels .now) (s .args .quads .now) (s .args .c .now) (c .before .before .loop .inv .1 .1) (omega arith)) (s .pre .1)
+
+returns : tie.Need-returns Inv-loop μ-loop
+returns c =
+    let s = c .before .before .before .before .before .before .before .before .before .before in
+    let e = gathered-all (s .args .labels .now) (s .args .quads .now) (s .args .c .now) (c .before .before .before .loop .inv .1 .1) (omega arith) in
+    c .judge-list .ensures ∙ last-are (s .args .labels .now) (s .args .parts .now) (s .args .quads .now) (s .args .c .now) (s .args .triangles .now) (s .args .within .now) _ e
+
+pub judge-many-spec : {M : Type 1} → statement M
+judge-many-spec =
+    tie.close
+    (tie.spec
+    Inv-loop
+    μ-loop
+    loop-holds
+    cast-t14
+    belongs-to-requires
+    cast-list
+    mul-list
+    array-write-list
+    add-k
+    add-i
+    loop-less
+    loop-again
+    array-share-prefix-list
+    slice-aggregate-judge-list
+    judge-list-requires
+    returns)

@@ -1,0 +1,27 @@
+-- What is known of the arrays of an accepted mesh, and the verdict of conditions 5 and 6.
+-- Assumes nothing.
+use Prim.Native.Nat.{ℕ, _/_}
+use mathlib.Core.Path.{_≡_}
+use mathlib.Core.Bool.{Bool, cond}
+use mathlib.Core.List.{List, []}
+use lib.IntN.{ℤ}
+use lib.ListN.{length}
+use Rattle.space.specs.Arrays.{meshOf, Close}
+use Rattle.around.specs.Index.{Indexed}
+use Rattle.cells.specs.Cells.{isFilledBy, isOnePart}
+use Rattle.cells.specs.Rows.{threes, tabled, quadsOf}
+
+-- coordinates in bounds, a part a tetrahedron, and the index of the labels
+pub record Arrays (zs : List ℤ) (ls ps : List ℕ) (n : ℕ) (offsets entries : List ℕ) : Type 0 where
+  pub close : Close zs
+  pub parts : length ps ≡ length ls / 4
+  pub indexed : Indexed ls n offsets entries
+
+-- the first of conditions 5 and 6 that fails, 0 where neither does
+abbrev pub lastOf : Bool → Bool → ℕ
+lastOf filled one = cond filled (cond one 0 6) 5
+
+-- the same of a tuple, where ts are the triangles, qs the quadrilaterals and ws the triples on no face
+unfoldable pub lastFailing : List ℕ → List ℕ → List ℕ → List ℕ → List ℕ → List ℕ → ℕ
+lastFailing ls ps c ts qs ws =
+    lastOf (isFilledBy (meshOf [] ls []) (tabled 0 [] ts qs []) c (threes ws)) (isOnePart (meshOf [] ls ps) (quadsOf qs) c)

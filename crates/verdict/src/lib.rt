@@ -1,0 +1,340 @@
+// The cell test: the first of conditions 1 to 6 that a tuple fails, and the tetrahedra of a cell, for a kind and its eight numbers.
+ghost use mathlib.Core.Path.{_≡_};
+ghost use mathlib.Core.List.{[]};
+ghost use Prim.Native.Nat.{_/_, _≤_};
+ghost use lib.ListN.{length, take};
+ghost use Rattle.space.specs.Arrays.{meshOf};
+ghost use Rattle.around.specs.Build.{Within};
+ghost use Rattle.around.specs.Index.{Indexed};
+ghost use Rattle.templates.specs.Tables.{hexahedron, prism, pyramid, templateOf};
+ghost use Rattle.cells.specs.Cells.{inside, numbersOf, firstFailing};
+ghost use Rattle.cells.specs.Rows.{threes, fours, tabled, quadsOf};
+ghost use Rattle.filling.specs.Found.{Found};
+ghost use Rattle.filling.specs.Filled.{sidesIn, fills, onePart};
+ghost use Rattle.verdict.specs.Judged.{Arrays, lastOf, lastFailing};
+use cells::has_edges;
+use cells::has_faces;
+use cells::is_sound;
+use cells::is_tuple;
+use filling::Tets;
+use filling::belongs_to;
+use filling::find;
+use filling::is_filled;
+use filling::is_one_part;
+use space::Tet;
+use templates::HEX_EDGES;
+use templates::HEX_INSIDE;
+use templates::HEX_QUADS;
+use templates::HEX_TRIANGLES;
+use templates::HEX_TRIPLES;
+use templates::PRISM_EDGES;
+use templates::PRISM_INSIDE;
+use templates::PRISM_QUADS;
+use templates::PRISM_TRIANGLES;
+use templates::PRISM_TRIPLES;
+use templates::PYRAMID_EDGES;
+use templates::PYRAMID_INSIDE;
+use templates::PYRAMID_QUADS;
+use templates::PYRAMID_TRIANGLES;
+use templates::PYRAMID_TRIPLES;
+
+// ---- conditions 5 and 6: 5 or 6, whichever fails first, or 0
+
+// By the tetrahedra listed.
+fn judge_list(
+    labels: &[u16],
+    parts: &[u16],
+    list: &[u16],
+    c: &[u16],
+    triangles: &[u8],
+    quads: &[u8],
+    within: &[u8],
+) -> u8
+    requires { ⌜ Within (length (now labels) / 4) (now list) × Within (length (now parts)) (now list) ⌝ }
+    ensures { λ r. ⌜ r ≡ lastOf (fills (sidesIn (now (labels .entry)) (now (list .entry)) (now (c .entry))) (threes (now (triangles .entry))) (fours (now (quads .entry))) (threes (now (within .entry)))) (onePart (now (parts .entry)) (now (list .entry))) ⌝ }
+{
+    if !is_filled(labels, list, c, triangles, quads, within) {
+        return 5;
+    }
+    if !is_one_part(parts, list) {
+        return 6;
+    }
+    0
+}
+
+// Of a cell with more tetrahedra than a record has places: they are all gathered first.
+fn judge_many(
+    labels: &[u16],
+    parts: &[u16],
+    c: &[u16],
+    triangles: &[u8],
+    quads: &[u8],
+    within: &[u8],
+) -> u8
+    requires { ⌜ (length (now labels) / 4 ≤ 2048) × (length (now parts) ≡ length (now labels) / 4) ⌝ }
+    ensures { λ r. ⌜ r ≡ lastFailing (now (labels .entry)) (now (parts .entry)) (now (c .entry)) (now (triangles .entry)) (now (quads .entry)) (now (within .entry)) ⌝ }
+{
+    let t = labels.len() / 4;
+    let mut list = [65535u16; 2048];
+    let mut k: usize = 0;
+    let mut i: usize = 0;
+    while i < t {
+        if belongs_to(labels, Tet(i as u16), c, quads) {
+            list[k] = i as u16;
+            k += 1;
+        }
+        i += 1;
+    }
+    judge_list(labels, parts, &list[..k], c, triangles, quads, within)
+}
+
+// Of a cell with at most 25, which were found.
+fn judge_few(
+    labels: &[u16],
+    parts: &[u16],
+    found: Tets,
+    c: &[u16],
+    triangles: &[u8],
+    quads: &[u8],
+    within: &[u8],
+) -> u8
+    requires { ⌜ Found (numbersOf (meshOf [] (now labels) []) (quadsOf (now quads)) (now c)) found × ((found .count ≤ 25) × (length (now parts) ≡ length (now labels) / 4)) ⌝ }
+    ensures { λ r. ⌜ r ≡ lastFailing (now (labels .entry)) (now (parts .entry)) (now (c .entry)) (now (triangles .entry)) (now (quads .entry)) (now (within .entry)) ⌝ }
+{
+    let k = found.count;
+    let list = found.list;
+    judge_list(labels, parts, &list[..k], c, triangles, quads, within)
+}
+
+// Of a tuple.
+fn judge_tets(
+    labels: &[u16],
+    parts: &[u16],
+    n: usize,
+    offsets: &[u16],
+    entries: &[u16],
+    c: &[u16],
+    triangles: &[u8],
+    quads: &[u8],
+    within: &[u8],
+) -> u8
+    requires { ⌜ Indexed (now labels) n (now offsets) (now entries) × (length (now parts) ≡ length (now labels) / 4) ⌝ }
+    ensures { λ r. ⌜ r ≡ lastFailing (now (labels .entry)) (now (parts .entry)) (now (c .entry)) (now (triangles .entry)) (now (quads .entry)) (now (within .entry)) ⌝ }
+{
+    let found = find(labels, n, offsets, entries, c, quads);
+    if found.count <= 25 {
+        judge_few(labels, parts, found, c, triangles, quads, within)
+    } else {
+        judge_many(labels, parts, c, triangles, quads, within)
+    }
+}
+
+// ---- all six
+
+// For the template that these tables say; `within` are the triples on no face.
+fn judge_by(
+    coords: &[i64],
+    labels: &[u16],
+    parts: &[u16],
+    n: usize,
+    offsets: &[u16],
+    entries: &[u16],
+    c: &[u16],
+    corners: usize,
+    edges: &[u8],
+    triangles: &[u8],
+    quads: &[u8],
+    triples: &[u8],
+    within: &[u8],
+) -> u8
+    requires { ⌜ Arrays (now coords) (now labels) (now parts) n (now offsets) (now entries) ⌝ }
+    requires { ⌜ threes (now within) ≡ inside (tabled corners (now edges) (now triangles) (now quads) (now triples)) ⌝ }
+    ensures { λ r. ⌜ r ≡ firstFailing (meshOf (now (coords .entry)) (now (labels .entry)) (now (parts .entry))) (tabled corners (now (edges .entry)) (now (triangles .entry)) (now (quads .entry)) (now (triples .entry))) (now (c .entry)) ⌝ }
+{
+    if !is_tuple(coords, c, corners) {
+        return 1;
+    }
+    if !has_edges(labels, n, offsets, entries, c, edges) {
+        return 2;
+    }
+    if !has_faces(labels, n, offsets, entries, c, triangles, quads) {
+        return 3;
+    }
+    if !is_sound(coords, c, triples) {
+        return 4;
+    }
+    judge_tets(
+        labels,
+        parts,
+        n,
+        offsets,
+        entries,
+        c,
+        triangles,
+        quads,
+        within,
+    )
+}
+
+fn judge_hexahedron(
+    coords: &[i64],
+    labels: &[u16],
+    parts: &[u16],
+    n: usize,
+    offsets: &[u16],
+    entries: &[u16],
+    c: &[u16],
+) -> u8
+    requires { ⌜ Arrays (now coords) (now labels) (now parts) n (now offsets) (now entries) ⌝ }
+    ensures { λ r. ⌜ r ≡ firstFailing (meshOf (now (coords .entry)) (now (labels .entry)) (now (parts .entry))) hexahedron (now (c .entry)) ⌝ }
+{
+    judge_by(
+        coords,
+        labels,
+        parts,
+        n,
+        offsets,
+        entries,
+        c,
+        8,
+        &HEX_EDGES,
+        &HEX_TRIANGLES,
+        &HEX_QUADS,
+        &HEX_TRIPLES,
+        &HEX_INSIDE,
+    )
+}
+
+fn judge_prism(
+    coords: &[i64],
+    labels: &[u16],
+    parts: &[u16],
+    n: usize,
+    offsets: &[u16],
+    entries: &[u16],
+    c: &[u16],
+) -> u8
+    requires { ⌜ Arrays (now coords) (now labels) (now parts) n (now offsets) (now entries) ⌝ }
+    ensures { λ r. ⌜ r ≡ firstFailing (meshOf (now (coords .entry)) (now (labels .entry)) (now (parts .entry))) prism (now (c .entry)) ⌝ }
+{
+    judge_by(
+        coords,
+        labels,
+        parts,
+        n,
+        offsets,
+        entries,
+        c,
+        6,
+        &PRISM_EDGES,
+        &PRISM_TRIANGLES,
+        &PRISM_QUADS,
+        &PRISM_TRIPLES,
+        &PRISM_INSIDE,
+    )
+}
+
+fn judge_pyramid(
+    coords: &[i64],
+    labels: &[u16],
+    parts: &[u16],
+    n: usize,
+    offsets: &[u16],
+    entries: &[u16],
+    c: &[u16],
+) -> u8
+    requires { ⌜ Arrays (now coords) (now labels) (now parts) n (now offsets) (now entries) ⌝ }
+    ensures { λ r. ⌜ r ≡ firstFailing (meshOf (now (coords .entry)) (now (labels .entry)) (now (parts .entry))) pyramid (now (c .entry)) ⌝ }
+{
+    judge_by(
+        coords,
+        labels,
+        parts,
+        n,
+        offsets,
+        entries,
+        c,
+        5,
+        &PYRAMID_EDGES,
+        &PYRAMID_TRIANGLES,
+        &PYRAMID_QUADS,
+        &PYRAMID_TRIPLES,
+        &PYRAMID_INSIDE,
+    )
+}
+
+fn judge_kind(
+    coords: &[i64],
+    labels: &[u16],
+    parts: &[u16],
+    n: usize,
+    offsets: &[u16],
+    entries: &[u16],
+    kind: u16,
+    tuple: &[u16],
+) -> u8
+    requires { ⌜ Arrays (now coords) (now labels) (now parts) n (now offsets) (now entries) × (8 ≤ length (now tuple)) ⌝ }
+    ensures { λ r. ⌜ r ≡ firstFailing (meshOf (now (coords .entry)) (now (labels .entry)) (now (parts .entry))) (templateOf kind) (take (templateOf kind .corners) (now (tuple .entry))) ⌝ }
+{
+    if kind == 8 {
+        return judge_hexahedron(coords, labels, parts, n, offsets, entries, &tuple[..8]);
+    }
+    if kind == 6 {
+        return judge_prism(coords, labels, parts, n, offsets, entries, &tuple[..6]);
+    }
+    judge_pyramid(coords, labels, parts, n, offsets, entries, &tuple[..5])
+}
+
+// The first condition that a tuple fails, 0 of a cell. A kind other than 8 and 6 counts as 5.
+pub fn judge(
+    coords: &[i64],
+    labels: &[u16],
+    parts: &[u16],
+    n: usize,
+    offsets: &[u16],
+    entries: &[u16],
+    kind: u16,
+    tuple: &[u16; 8],
+) -> u8
+    requires { ⌜ Arrays (now coords) (now labels) (now parts) n (now offsets) (now entries) ⌝ }
+    ensures { λ r. ⌜ r ≡ firstFailing (meshOf (now (coords .entry)) (now (labels .entry)) (now (parts .entry))) (templateOf kind) (take (templateOf kind .corners) (now (tuple .entry))) ⌝ }
+{
+    judge_kind(coords, labels, parts, n, offsets, entries, kind, tuple)
+}
+
+// ---- a cell's tetrahedra
+
+fn tets_kind(
+    labels: &[u16],
+    n: usize,
+    offsets: &[u16],
+    entries: &[u16],
+    kind: u16,
+    tuple: &[u16],
+) -> Tets
+    requires { ⌜ Indexed (now labels) n (now offsets) (now entries) × (8 ≤ length (now tuple)) ⌝ }
+    ensures { λ r. ⌜ Found (numbersOf (meshOf [] (now (labels .entry)) []) (templateOf kind) (take (templateOf kind .corners) (now (tuple .entry)))) r ⌝ }
+{
+    if kind == 8 {
+        return find(labels, n, offsets, entries, &tuple[..8], &HEX_QUADS);
+    }
+    if kind == 6 {
+        return find(labels, n, offsets, entries, &tuple[..6], &PRISM_QUADS);
+    }
+    find(labels, n, offsets, entries, &tuple[..5], &PYRAMID_QUADS)
+}
+
+// The tetrahedra of a tuple: how many, and the numbers of the first 25.
+pub fn tets_of(
+    labels: &[u16],
+    n: usize,
+    offsets: &[u16],
+    entries: &[u16],
+    kind: u16,
+    tuple: &[u16; 8],
+) -> Tets
+    requires { ⌜ Indexed (now labels) n (now offsets) (now entries) ⌝ }
+    ensures { λ r. ⌜ Found (numbersOf (meshOf [] (now (labels .entry)) []) (templateOf kind) (take (templateOf kind .corners) (now (tuple .entry)))) r ⌝ }
+{
+    tets_kind(labels, n, offsets, entries, kind, tuple)
+}
