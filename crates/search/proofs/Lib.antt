@@ -3,3 +3,4 @@ pub mod Prune
 pub mod Joined
 pub mod Tables
 pub mod Scanning
+pub mod Leaves

@@ -26,8 +26,10 @@ use Rattle.portions.specs.Tuples.{Agree, Skips}
 use Rattle.rule.specs.Rule.{isLeaf}
 use Rattle.search.specs.Levels.{base, joined}
 use Rattle.search.specs.Prune.{fits}
-use Rattle.search.specs.Ready.{Ready, Scanned}
-use Rattle.search.proofs.Prune.{leaf-small, passes}
+use Rattle.search.specs.Ready.{Ready, Scanned, Begins}
+use Rattle.portions.proofs.Search.{Laws}
+use Rattle.rule.proofs.OneKind.{leaf-laws}
+use Rattle.search.proofs.Prune.{leaf-small, flat-at, passes}
 use Rattle.search.proofs.Joined.{Joined, leaf-joined}
 
 -- none of the first i entries of the row passes
@@ -128,3 +130,29 @@ module _ {zs : List ℤ} {ls : List ℕ} {n : ℕ} {os es table : List ℕ} (g :
       low = λ b. ⊎-elim (λ e. absurd (omega (arith, e .1))) (λ e. e .1) (c .here);
       miss = λ s e a f b. none c ps s e a f b;
     }
+
+-- ── where a search begins ──
+
+module _ {zs : List ℤ} {ls : List ℕ} {n : ℕ} {os es table : List ℕ} (g : Ready zs ls n os es table) (k : ℕ) (mark : List ℕ) where
+  pub points-are : (ps : List ℕ) → length (meshOf zs ls ps .points) ≡ n
+  points-are ps = length-up (pointAt zs) (length zs / 3) ∙ g .counted
+
+  pub begins-here : {d v w : ℕ} → d < templateOf k .corners → v ≡ getD mark d 0 → (w ≡ v → ⊥) → ((ps : List ℕ) → Skips (isLeaf (meshOf zs ls ps) (templateOf k)) mark d n v w) → Begins zs ls k mark d
+  begins-here {d} {v} {w} h q z c = record {
+    within = h;
+    last = λ ps. inr (λ s p a.
+        let e : getD s d 0 ≡ v = sym (a d (omega arith)) ∙ sym q in
+        let small = leaf-small zs ls ps k s p d h in
+        c ps .miss s p (λ j b. a j (omega arith)) (omega arith) (elim (decLt w n) [
+          | yes f ↦ let y = c ps .low f in elim (decLt v w) [ yes b ↦ omega arith | no b ↦ absurd (z (omega arith)) ]
+          | no f ↦ omega (arith, points-are ps)
+        ]));
+  }
+
+  pub begins-last : {d : ℕ} → d + 1 ≡ templateOf k .corners → Begins zs ls k mark d
+  begins-last {d} e = record { within = omega arith; last = λ ps. inl e }
+
+  -- what the search is told of the test of a whole tuple
+  pub laws-of : (ps : List ℕ) → Laws (templateOf k .corners) n (isLeaf (meshOf zs ls ps) (templateOf k))
+  laws-of ps =
+      subst (λ i. Laws (templateOf k .corners) i (isLeaf (meshOf zs ls ps) (templateOf k))) (points-are ps) (leaf-laws (meshOf zs ls ps) (templateOf k) (flat-at k))

@@ -59,3 +59,11 @@ row-in k d h = go (eqb k 8) (eqb k 6) h
     go true b h = (omega arith, omega arith)
     go false true h = (omega arith, omega arith)
     go false false h = (omega arith, omega arith)
+
+pub rows-in : (k : ℕ) → base k + templateOf k .corners ≤ 19
+rows-in k = go (eqb k 8) (eqb k 6)
+  where
+    go : (a b : Bool) → cond a 0 (cond b 8 14) + cond a hexahedron (cond b prism pyramid) .corners ≤ 19
+    go true b = omega arith
+    go false true = omega arith
+    go false false = omega arith

@@ -9,7 +9,10 @@ use lib.IntN.{ℤ}
 use lib.ListN.{length, getD}
 use Rattle.space.specs.Arrays.{meshOf, Close}
 use Rattle.around.specs.Index.{Indexed}
+use Rattle.templates.specs.Tables.{templateOf}
 use Rattle.neighbours.specs.Reading.{Tabled}
+use Rattle.portions.specs.Tuples.{Agree}
+use Rattle.rule.specs.Rule.{isLeaf}
 
 -- the mesh of n vertices in working arrays, its index and its neighbour table
 pub record Ready (zs : List ℤ) (ls : List ℕ) (n : ℕ) (os es table : List ℕ) : Type 0 where
@@ -30,3 +33,8 @@ pub record Scanned (ok : ℕ → Bool) (row : List ℕ) (n lo r : ℕ) : Type 0 
   pub index : ℕ
   pub missed : (j : ℕ) → j < index → lo ≤ getD row j 0 → ok (getD row j 0) ≡ true → ⊥
   pub here : ((length row ≤ index) × (r ≡ n)) ⊎ ((r ≡ getD row index 0) × (lo ≤ r))
+
+-- the search for tuples after the mark begins at place r: the last, or one at which no listed tuple goes on with the mark's entry
+pub record Begins (zs : List ℤ) (ls : List ℕ) (k : ℕ) (mark : List ℕ) (r : ℕ) : Type 0 where
+  pub within : r < templateOf k .corners
+  pub last : (ps : List ℕ) → (r + 1 ≡ templateOf k .corners) ⊎ ((s : List ℕ) → isLeaf (meshOf zs ls ps) (templateOf k) s ≡ true → Agree (r + 1) mark s → ⊥)

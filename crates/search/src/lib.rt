@@ -5,24 +5,33 @@ use cells::is_sound;
 use neighbours::row_of;
 use space::Vertex;
 use templates::is_in;
+use verdict::judge;
 ghost use mathlib.Core.Path.{_≡_};
 ghost use mathlib.Core.Logic.{_⊎_};
 ghost use mathlib.Core.Bool.{_&&_};
 ghost use mathlib.Core.List.{List, []};
-ghost use Prim.Native.Nat.{ℕ, _+_, _<_, _≤_};
+ghost use Prim.Native.Nat.{ℕ, _+_, _/_, _<_, _≤_};
 ghost use lib.Dec.{leb, ltb};
-ghost use lib.ListN.{length, getD, set};
+ghost use lib.ListN.{length, getD, set, take};
 ghost use Rattle.base.specs.Lists.{all, upTo};
 ghost use Rattle.space.specs.Arrays.{meshOf, Close};
 ghost use Rattle.around.specs.Index.{Indexed};
-ghost use Rattle.templates.specs.Tables.{templateOf};
+ghost use Rattle.templates.specs.Tables.{templateOf, at};
+ghost use Rattle.templates.specs.Least.{isLeast};
 ghost use Rattle.cells.specs.Cells.{isSound, hasFaces};
 ghost use Rattle.cells.specs.Rows.{tabled};
-ghost use Rattle.portions.specs.Tuples.{Agree, Skips};
+ghost use Rattle.verdict.specs.Judged.{Arrays};
+ghost use Rattle.portions.specs.Tuples.{Skips, LeastAfter};
 ghost use Rattle.rule.specs.Rule.{isLeaf};
 ghost use Rattle.search.specs.Levels.{base, lesser, joined, part, levelOf};
 ghost use Rattle.search.specs.Prune.{comesAfter, fits};
-ghost use Rattle.search.specs.Ready.{Ready, Cut, Scanned};
+ghost use Rattle.search.specs.Ready.{Ready, Cut, Scanned, Begins};
+
+// The tuple that was found, in search order.
+pub struct Found {
+    pub found: bool,
+    pub tuple: [u16; 8],
+}
 
 const TRIANGLES: [u8; 18] = [0, 1, 2, 3, 4, 5, 0, 1, 4, 1, 2, 4, 2, 3, 4, 0, 3, 4];
 
@@ -462,4 +471,131 @@ fn seek(
         d,
         lo,
     )
+}
+
+// ---- the test of a whole tuple
+
+// Each of the first k vertices is above those that it must be above; b is where the rows of the kind begin.
+fn all_above(s: &[u16], k: usize, b: usize) -> bool
+    requires { ⌜ ((k ≤ length (now s)) × (2 ≤ length (now s))) × (b + k ≤ 19) ⌝ }
+    ensures { λ r. ⌜ r ≡ all (λ d. all (λ j. ltb (getD (now (s .entry)) j 0) (getD (now (s .entry)) d 0)) (upTo (getD lesser (b + d) 0))) (upTo k) ⌝ }
+{
+    let mut d = 0;
+    while d < k {
+        if !is_above(s, lesser_of(b + d), Vertex(s[d])) {
+            return false;
+        }
+        d += 1;
+    }
+    true
+}
+
+fn is_least(kind: u16, s: [u16; 8]) -> bool
+    ensures { λ r. ⌜ r ≡ isLeast (templateOf kind) (at s (templateOf kind .places)) ⌝ }
+{
+    all_above(&s, corners_of(kind), base_of(kind))
+}
+
+// The tuple in letter order.
+fn letters(kind: u16, s: [u16; 8]) -> [u16; 8]
+    ensures { λ r. ⌜ take (templateOf kind .corners) r ≡ at s (templateOf kind .places) ⌝ }
+{
+    if kind == 8 {
+        return [s[0], s[1], s[4], s[2], s[3], s[5], s[7], s[6]];
+    }
+    s
+}
+
+fn is_leaf(
+    coords: &[i64],
+    labels: &[u16],
+    parts: &[u16],
+    n: usize,
+    offsets: &[u16],
+    entries: &[u16],
+    kind: u16,
+    s: [u16; 8],
+) -> bool
+    requires { ⌜ Arrays (now coords) (now labels) (now parts) n (now offsets) (now entries) ⌝ }
+    ensures { λ r. ⌜ r ≡ isLeaf (meshOf (now (coords .entry)) (now (labels .entry)) (now (parts .entry))) (templateOf kind) s ⌝ }
+{
+    if !is_least(kind, s) {
+        return false;
+    }
+    let c = letters(kind, s);
+    judge(coords, labels, parts, n, offsets, entries, kind, &c) == 0
+}
+
+// ---- the search
+
+// The first place at which no cell goes on with the mark's entry, or the last.
+fn start(
+    coords: &[i64],
+    labels: &[u16],
+    n: usize,
+    offsets: &[u16],
+    entries: &[u16],
+    table: &[u16],
+    kind: u16,
+    mark: [u16; 8],
+) -> usize
+    requires { ⌜ Ready (now coords) (now labels) n (now offsets) (now entries) (now table) ⌝ }
+    ensures { λ r. ⌜ Begins (now (coords .entry)) (now (labels .entry)) kind mark r ⌝ }
+{
+    let k = corners_of(kind);
+    let mut d = 0;
+    while d + 1 < k {
+        let v = wide(mark[d]);
+        if seek(coords, labels, n, offsets, entries, table, kind, mark, d, v) != v {
+            return d;
+        }
+        d += 1;
+    }
+    d
+}
+
+// The least tuple of a kind after the mark that is a cell in least form. Entries past the kind's corners keep what the mark has there.
+pub fn next(
+    coords: &[i64],
+    labels: &[u16],
+    parts: &[u16],
+    n: usize,
+    offsets: &[u16],
+    entries: &[u16],
+    table: &[u16],
+    kind: u16,
+    mark: [u16; 8],
+) -> Found
+    requires { ⌜ Ready (now coords) (now labels) n (now offsets) (now entries) (now table) × (length (now parts) ≡ length (now labels) / 4) ⌝ }
+    ensures { λ r. ⌜ LeastAfter (templateOf kind .corners) (isLeaf (meshOf (now (coords .entry)) (now (labels .entry)) (now (parts .entry))) (templateOf kind)) mark (r .found) (r .tuple) ⌝ }
+{
+    let k = corners_of(kind);
+    let mut t = mark;
+    let mut d = start(coords, labels, n, offsets, entries, table, kind, mark);
+    let mut lo = wide(t[d]) + 1;
+    loop {
+        let c = seek(coords, labels, n, offsets, entries, table, kind, t, d, lo);
+        if c < n {
+            t[d] = c as u16;
+            if d + 1 < k {
+                d += 1;
+                lo = 0;
+            } else if is_leaf(coords, labels, parts, n, offsets, entries, kind, t) {
+                return Found {
+                    found: true,
+                    tuple: t,
+                };
+            } else {
+                lo = c + 1;
+            }
+        } else if d == 0 {
+            return Found {
+                found: false,
+                tuple: t,
+            };
+        } else {
+            d -= 1;
+            lo = wide(t[d]) + 1;
+        }
+    }
 }

@@ -1,0 +1,323 @@
+// The cells after a mark over all three kinds, and the loop that writes their records into a lent room.
+use filling::Tets;
+use search::Found;
+use search::next;
+use verdict::tets_of;
+ghost use mathlib.Core.Path.{_≡_};
+ghost use mathlib.Core.List.{[], _∷_, _++_};
+ghost use Prim.Native.Nat.{_+_, _*_, _/_, _≤_};
+ghost use lib.ListN.{length, take};
+ghost use Rattle.base.specs.Lists.{pad};
+ghost use Rattle.base.specs.Laid.{Laid};
+ghost use Rattle.space.specs.Arrays.{meshOf};
+ghost use Rattle.around.specs.Index.{Indexed};
+ghost use Rattle.templates.specs.Tables.{templateOf, at};
+ghost use Rattle.cells.specs.Cells.{numbersOf};
+ghost use Rattle.filling.specs.Found.{Found as Numbered};
+ghost use Rattle.search.specs.Ready.{Ready};
+ghost use Rattle.rule.specs.Rule.{tetRule, Searched};
+ghost use Rattle.records.specs.Marks.{letters, markOf, Written};
+ghost use Rattle.records.specs.Records.{cornersOf, Came, headOf};
+
+// How many entries a record has.
+const SIZE: usize = 35;
+
+// Where a listing stands: behind the cell of this kind with these corners, 0 where the kind has none.
+pub struct Mark {
+    pub kind: u16,
+    pub a: u16,
+    pub b: u16,
+    pub c: u16,
+    pub d: u16,
+    pub e: u16,
+    pub f: u16,
+    pub g: u16,
+    pub h: u16,
+}
+
+// The mark of the cell that was found.
+pub struct Step {
+    pub found: bool,
+    pub mark: Mark,
+}
+
+// A refusal by its number. `Long` is refusal 12 after this many records: the next cell has more than 25 tetrahedra.
+pub enum Answer {
+    Refused(u8),
+    Long(usize),
+    Given {
+        count: usize,
+        none_remain: bool,
+        mark: Mark,
+    },
+}
+
+// ---- marks and tuples
+
+// The numbers of a mark in the search order of a kind.
+fn ordered(kind: u16, m: Mark) -> [u16; 8]
+    ensures { λ r. ⌜ take (templateOf kind .corners) r ≡ at (letters m) (templateOf kind .order) ⌝ }
+{
+    if kind == 8 {
+        return [m.a, m.b, m.d, m.e, m.c, m.f, m.h, m.g];
+    }
+    [m.a, m.b, m.c, m.d, m.e, m.f, m.g, m.h]
+}
+
+// The mark of the cell that a tuple in search order makes.
+fn mark_at(kind: u16, t: [u16; 8]) -> Mark
+    ensures { λ r. ⌜ markOf r ≡ templateOf kind .kind ∷ pad 8 0 (at t (templateOf kind .places)) ⌝ }
+{
+    if kind == 8 {
+        return Mark {
+            kind: 8,
+            a: t[0],
+            b: t[1],
+            c: t[4],
+            d: t[2],
+            e: t[3],
+            f: t[5],
+            g: t[7],
+            h: t[6],
+        };
+    }
+    if kind == 6 {
+        return Mark {
+            kind: 6,
+            a: t[0],
+            b: t[1],
+            c: t[2],
+            d: t[3],
+            e: t[4],
+            f: t[5],
+            g: 0,
+            h: 0,
+        };
+    }
+    Mark {
+        kind: 5,
+        a: t[0],
+        b: t[1],
+        c: t[2],
+        d: t[3],
+        e: t[4],
+        f: 0,
+        g: 0,
+        h: 0,
+    }
+}
+
+// The mark after all cells.
+fn end_mark() -> Mark
+    ensures { λ r. ⌜ markOf r ≡ tetRule .end ⌝ }
+{
+    Mark {
+        kind: 0,
+        a: 0,
+        b: 0,
+        c: 0,
+        d: 0,
+        e: 0,
+        f: 0,
+        g: 0,
+        h: 0,
+    }
+}
+
+// ---- the next cell
+
+// The first tuple of a kind that comes after the mark: none of a kind above the mark's, and any of a kind below.
+fn search_kind(
+    coords: &[i64],
+    labels: &[u16],
+    parts: &[u16],
+    n: usize,
+    offsets: &[u16],
+    entries: &[u16],
+    table: &[u16],
+    kind: u16,
+    mark: Mark,
+) -> Found
+    requires { ⌜ Ready (now coords) (now labels) n (now offsets) (now entries) (now table) × (length (now parts) ≡ length (now labels) / 4) ⌝ }
+    requires { ⌜ templateOf kind .kind ≡ kind ⌝ }
+    ensures { λ r. ⌜ Searched (meshOf (now (coords .entry)) (now (labels .entry)) (now (parts .entry))) (templateOf kind) (mark .kind) (letters mark) (r .found) (r .tuple) ⌝ }
+{
+    let k = mark.kind;
+    if k < kind {
+        return Found {
+            found: false,
+            tuple: [0; 8],
+        };
+    }
+    if k == kind {
+        let from = ordered(kind, mark);
+        return next(
+            coords,
+            labels,
+            parts,
+            n,
+            offsets,
+            entries,
+            table,
+            kind,
+            from,
+        );
+    }
+    next(
+        coords,
+        labels,
+        parts,
+        n,
+        offsets,
+        entries,
+        table,
+        kind,
+        [0; 8],
+    )
+}
+
+// The first cell after the mark.
+fn next_cell(
+    coords: &[i64],
+    labels: &[u16],
+    parts: &[u16],
+    n: usize,
+    offsets: &[u16],
+    entries: &[u16],
+    table: &[u16],
+    mark: Mark,
+) -> Step
+    requires { ⌜ Ready (now coords) (now labels) n (now offsets) (now entries) (now table) × (length (now parts) ≡ length (now labels) / 4) ⌝ }
+    ensures { λ r. ⌜ Came (meshOf (now (coords .entry)) (now (labels .entry)) (now (parts .entry))) (markOf mark) (r .found) (markOf (r .mark)) ⌝ }
+{
+    let x = search_kind(coords, labels, parts, n, offsets, entries, table, 8, mark);
+    if x.found {
+        let t = x.tuple;
+        return Step {
+            found: true,
+            mark: mark_at(8, t),
+        };
+    }
+    let y = search_kind(coords, labels, parts, n, offsets, entries, table, 6, mark);
+    if y.found {
+        let t = y.tuple;
+        return Step {
+            found: true,
+            mark: mark_at(6, t),
+        };
+    }
+    let z = search_kind(coords, labels, parts, n, offsets, entries, table, 5, mark);
+    let t = z.tuple;
+    Step {
+        found: z.found,
+        mark: mark_at(5, t),
+    }
+}
+
+// ---- records
+
+// Writes a list from a place on.
+fn put(room: &mut [u16], from: usize, list: &[u16])
+    requires { ⌜ from + length (now list) ≤ length (now room) ⌝ }
+    ensures { λ r. ⌜ Laid from (now (list .entry)) (now (room .entry)) (now (room .exit)) ⌝ }
+{
+    let mut i = 0;
+    while i < list.len() {
+        room[from + i] = list[i];
+        i += 1;
+    }
+}
+
+// A record's kind, corners and count.
+fn head_of(mark: Mark, count: usize) -> [u16; 10]
+    requires { ⌜ count ≤ 25 ⌝ }
+    ensures { λ r. ⌜ (r ≡ headOf (markOf mark) count) × (length r ≡ 10) ⌝ }
+{
+    let m = mark;
+    let x = count as u16;
+    if m.kind == 8 {
+        return [m.kind, m.a, m.b, m.c, m.d, m.e, m.f, m.g, m.h, x];
+    }
+    if m.kind == 6 {
+        return [m.kind, m.a, m.b, m.c, m.d, m.e, m.f, 65535, 65535, x];
+    }
+    [m.kind, m.a, m.b, m.c, m.d, m.e, 65535, 65535, 65535, x]
+}
+
+fn put_record(room: &mut [u16], from: usize, mark: Mark, tets: Tets)
+    requires { ⌜ (tets .count ≤ 25) × ((length (tets .list) ≡ 25) × (from + tetRule .size ≤ length (now room))) ⌝ }
+    ensures { λ r. ⌜ Laid from (headOf (markOf mark) (tets .count) ++ tets .list) (now (room .entry)) (now (room .exit)) ⌝ }
+{
+    let head = head_of(mark, tets.count);
+    let list = tets.list;
+    put(room, from, &head);
+    put(room, from + 10, &list);
+}
+
+// The tetrahedra of the cell that has this mark.
+fn tets_at(labels: &[u16], n: usize, offsets: &[u16], entries: &[u16], mark: Mark) -> Tets
+    requires { ⌜ Indexed (now labels) n (now offsets) (now entries) ⌝ }
+    ensures { λ r. ⌜ Numbered (numbersOf (meshOf [] (now (labels .entry)) []) (templateOf (mark .kind)) (cornersOf (markOf mark))) r ⌝ }
+{
+    let corners = [
+        mark.a,
+        mark.b,
+        mark.c,
+        mark.d,
+        mark.e,
+        mark.f,
+        mark.g,
+        mark.h,
+    ];
+    tets_of(labels, n, offsets, entries, mark.kind, &corners)
+}
+
+// ---- a portion
+
+// Writes the records of the cells after the mark, as many as the room holds. The next cell is asked for first, then whether the room is full: so the end is told with the last cell.
+pub fn write_cells(
+    coords: &[i64],
+    labels: &[u16],
+    parts: &[u16],
+    n: usize,
+    offsets: &[u16],
+    entries: &[u16],
+    table: &[u16],
+    mark: Mark,
+    records: &mut [u16],
+) -> Answer
+    requires { ⌜ Ready (now coords) (now labels) n (now offsets) (now entries) (now table) × (length (now parts) ≡ length (now labels) / 4) ⌝ }
+    ensures { λ r. ⌜ Written (meshOf (now (coords .entry)) (now (labels .entry)) (now (parts .entry))) (markOf mark) (now (records .entry)) r (now (records .exit)) ⌝ }
+{
+    if records.len() < SIZE {
+        return Answer::Refused(11);
+    }
+    let most = records.len() / SIZE;
+    let mut i: usize = 0;
+    let mut k = mark;
+    loop {
+        let s = next_cell(coords, labels, parts, n, offsets, entries, table, k);
+        if !s.found {
+            return Answer::Given {
+                count: i,
+                none_remain: true,
+                mark: end_mark(),
+            };
+        }
+        if i == most {
+            return Answer::Given {
+                count: i,
+                none_remain: false,
+                mark: k,
+            };
+        }
+        let c = s.mark;
+        let tets = tets_at(labels, n, offsets, entries, c);
+        if 25 < tets.count {
+            return Answer::Long(i);
+        }
+        put_record(records, i * SIZE, c, tets);
+        i += 1;
+        k = c;
+    }
+}

@@ -1,0 +1,36 @@
+-- The test of a whole tuple: least form level by level, and the tuple in letter order.
+-- Assumes nothing.
+use Prim.Native.Nat.{ℕ, _+_, _≤_}
+use mathlib.Core.Path.{_≡_, refl, sym, _∙_}
+use mathlib.Core.Bool.{Bool, true, false, cond, and-assoc}
+use mathlib.Core.List.{List}
+use native.Mathlib.Omega.{arith}
+use lib.Dec.{eqb, ltb}
+use lib.ListN.{length, getD, take}
+use Rattle.base.specs.Lists.{all, upTo}
+use Rattle.templates.specs.Tables.{hexahedron, prism, pyramid, templateOf, at}
+use Rattle.templates.specs.Least.{rises, risesAt, isLeast}
+use Rattle.search.specs.Levels.{base, lesser}
+use Rattle.search.proofs.Prune.{take-front}
+
+-- each of the first k vertices is above those that it must be above
+abbrev pub aboveAll : List ℕ → ℕ → ℕ → Bool
+aboveAll s k b = all (λ d. all (λ j. ltb (getD s j 0) (getD s d 0)) (upTo (getD lesser (b + d) 0))) (upTo k)
+
+pub least-is : (k : ℕ) (s : List ℕ) → aboveAll s (templateOf k .corners) (base k) ≡ isLeast (templateOf k) (at s (templateOf k .places))
+unfolding isLeast risesAt rises
+least-is k s = go (eqb k 8) (eqb k 6)
+  where
+    go : (a b : Bool) → aboveAll s (cond a hexahedron (cond b prism pyramid) .corners) (cond a 0 (cond b 8 14)) ≡ isLeast (cond a hexahedron (cond b prism pyramid)) (at s (cond a hexahedron (cond b prism pyramid) .places))
+    go true b = simp and-assoc
+    go false true = simp and-assoc
+    go false false = simp and-assoc
+
+-- a kind but the first has its corners in search order
+pub letters-same : (k : ℕ) (s : List ℕ) → eqb k 8 ≡ false → 8 ≤ length s → take (templateOf k .corners) s ≡ at s (templateOf k .places)
+letters-same k s e h = go (eqb k 8) (eqb k 6) e
+  where
+    go : (a b : Bool) → a ≡ false → take (cond a hexahedron (cond b prism pyramid) .corners) s ≡ at s (cond a hexahedron (cond b prism pyramid) .places)
+    go true b q = cc
+    go false true q = take-front 6 s (omega arith)
+    go false false q = take-front 5 s (omega arith)

@@ -1,0 +1,38 @@
+-- `search::is_leaf` meets its contract. Assumes nothing.
+use mathlib.Core.Path.{sym, _∙_, ap}
+use lib.Dec.{eqb}
+use Rattle.base.proofs.Bools.{and-fails, and-passes}
+use Rattle.space.specs.Arrays.{meshOf}
+use Rattle.templates.specs.Tables.{templateOf, at}
+use Rattle.cells.specs.Cells.{firstFailing}
+use Rattle.verdict.proofs.Cell.{cell-is}
+use Rattle.rule.specs.Rule.{isLeaf}
+use borrow.Author.Needs.{needs}
+use Rattle.search.proofs.is_leaf.Statement.{statement}
+use Rattle.search.proofs.is_leaf.Tie as tie
+
+is-least-requires : tie.Need-is-least-requires
+is-least-requires c κs = search needs
+
+returns : tie.Need-returns
+unfolding isLeaf
+returns c = and-fails (c .before .is-least .ensures) (c .if1 .taken) _
+
+letters-requires : tie.Need-letters-requires
+letters-requires c κs = search needs
+
+judge-requires : tie.Need-judge-requires
+judge-requires c κs = search needs
+
+returns-2 : tie.Need-returns-2
+unfolding isLeaf
+returns-2 c =
+    let a = c .before .before .before .before .before .before .before .before .before .args in
+    let m = meshOf (a .coords .now) (a .labels .now) (a .parts .now) in
+    let t = templateOf (a .kind) in
+    and-passes (c .before .before .before .before .is-least .ensures) (c .before .before .before .if1 .left)
+    (ap (λ v. eqb v 0) (c .judge .ensures ∙ ap (firstFailing m t) (c .before .before .letters .ensures)) ∙ sym (cell-is m t (at (a .s) (t .places))))
+
+pub is-leaf-spec : {M : Type 1} → statement M
+is-leaf-spec =
+    tie.close (tie.spec is-least-requires returns letters-requires judge-requires returns-2)
