@@ -65,6 +65,7 @@ module _ (m : Mesh) where
   pub written-short : (k old : List ℕ) → length old < tetRule .size → Written m k old (Refused 11) old
   written-short k old h = record {
     outcome = outcome-short tetRule (fullList m) (lawful m) k old h;
+    plain = refl;
     counted = ap (λ p. length (p .written)) (portion-short tetRule (fullList m) (lawful m) k (length old) h);
   }
 
@@ -77,6 +78,7 @@ module _ (m : Mesh) where
       pub written-none : (e : Mark) → markOf e ≡ tetRule .end → found ≡ false → Written m k old (Given i true e) l
       written-none e q t = record {
         outcome = rw q (outcome-none tetRule (fullList m) (lawful m) x wide (n .next) t);
+        plain = refl;
         counted = counted-as (portion-none tetRule (fullList m) (lawful m) wide (x .under) (next-is tetRule (fullList m) (lawful m) t (n .next)));
       }
 
@@ -84,6 +86,7 @@ module _ (m : Mesh) where
       pub written-full : (e : Mark) → markOf e ≡ j → found ≡ true → i ≡ length old / tetRule .size → Written m k old (Given i false e) l
       written-full e q t h = record {
         outcome = rw q (outcome-full tetRule (fullList m) (lawful m) x wide (n .next) t h);
+        plain = refl;
         counted = counted-as (portion-full tetRule (fullList m) (lawful m) wide (x .under) (next-is tetRule (fullList m) (lawful m) t (n .next)) (x .counted ∙ h));
       }
 
@@ -91,6 +94,7 @@ module _ (m : Mesh) where
       pub written-long : found ≡ true → i < length old / tetRule .size → tetRule .fits (cellMarked m j′) ≡ false → Written m k old (Long i) l
       written-long t h f = record {
         outcome = outcome-long tetRule (fullList m) (lawful m) x wide (n .next) t h f;
+        plain = refl;
         counted = counted-as (portion-long tetRule (fullList m) (lawful m) wide (x .under) (next-is tetRule (fullList m) (lawful m) t (n .next)) (omega (arith, x .counted)) f);
       }
 

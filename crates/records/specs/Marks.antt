@@ -2,8 +2,9 @@
 -- Assumes nothing.
 use Prim.Native.Nat.{ℕ, _*_}
 use mathlib.Core.Path.{_≡_}
-use mathlib.Core.Bool.{Bool}
+use mathlib.Core.Bool.{Bool, true}
 use mathlib.Core.List.{List, [], _∷_}
+use lib.Dec.{ltb}
 use lib.ListN.{length}
 use Rattle.space.specs.Mesh.{Mesh}
 use Rattle.cells.specs.Full.{fullList}
@@ -40,7 +41,14 @@ wrote (Refused k) = 0
 wrote (Long n) = n
 wrote (Given count none mark) = count
 
+-- 12 is told as `Long` alone
+abbrev pub isPlain : Answer → Bool
+isPlain (Refused k) = ltb k 12
+isPlain (Long n) = true
+isPlain (Given count none mark) = true
+
 -- what a portion of the cells of a mesh promises, from the mark k on in this room: the answer and what it leaves there, and how many records that is
 pub record Written (m : Mesh) (k room : List ℕ) (a : Answer) (left : List ℕ) : Type 0 where
   pub outcome : Outcome tetRule (fullList m) k room (says a) left
+  pub plain : isPlain a ≡ true
   pub counted : length (portion tetRule (fullList m) k (length room) .written) ≡ tetRule .size * wrote a
