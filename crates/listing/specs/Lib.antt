@@ -1,0 +1,2 @@
+pub mod Portion
+pub mod Arrays
