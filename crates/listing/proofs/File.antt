@@ -11,7 +11,7 @@ use Rattle.layout.specs.Layout.{vertices, tets, Framed, vertexPart, tetPart, co
 use Rattle.layout.proofs.Framed.{coords-long, labels-long, parts-long}
 use Rattle.mesh.specs.Check.{checked, number, refusal}
 use Rattle.mesh.specs.declared.Checked.{Checked}
-use Rattle.mesh.specs.declared.Checked.the-variants.{Accepted}
+use Rattle.mesh.specs.declared.Checked.the-variants.{Accepted, Length, Counts, Layout, Coordinate, Label, Twice, Flat, Crowded, Folded}
 use Rattle.mesh.proofs.Accepted.{accepted-gives}
 use Rattle.neighbours.specs.Table.{tableOf}
 use Rattle.neighbours.proofs.Whole.{enough}
@@ -66,8 +66,24 @@ module _ (f : List ℕ) where
         let g = framed in
         rw (accepted-none, sym (g .vertex), sym (g .tet), sym p, sym r, sym d) h
 
-    -- 25,089 entries always suffice for the table of an accepted file
-    pub enough-table : length (tableOf (decoded f) (vertices f)) ≤ 25089
+    enough-table : length (tableOf (decoded f) (vertices f)) ≤ 25089
     enough-table =
         let g = accepted-gives f n t q in
         enough (coordsOf f) (labelsOf f) (partsOf f) (vertices f) (omega (arith, g .framed .vertex, g .framed .fewVertices)) (g .labelled .few)
+
+-- 25,089 entries suffice for the table of any accepted file
+pub table-suffices : (f : List ℕ) → refusal f ≡ 0 → length (tableOf (decoded f) (vertices f)) ≤ 25089
+unfolding refusal number
+table-suffices f e = go (checked f) refl e
+  where
+    go : (v : Checked) → checked f ≡ v → number v ≡ 0 → length (tableOf (decoded f) (vertices f)) ≤ 25089
+    go (Accepted n t) q z = enough-table f n t q
+    go Length q z = absurd (omega arith)
+    go Counts q z = absurd (omega arith)
+    go Layout q z = absurd (omega arith)
+    go Coordinate q z = absurd (omega arith)
+    go Label q z = absurd (omega arith)
+    go Twice q z = absurd (omega arith)
+    go Flat q z = absurd (omega arith)
+    go Crowded q z = absurd (omega arith)
+    go Folded q z = absurd (omega arith)

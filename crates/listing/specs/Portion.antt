@@ -11,7 +11,6 @@ use Rattle.layout.specs.Layout.{vertices, decoded}
 use Rattle.mesh.specs.Check.{refusal}
 use Rattle.cells.specs.Full.{fullList}
 use Rattle.neighbours.specs.Table.{tableOf}
-use Rattle.portions.specs.Portions as portions
 use Rattle.portions.specs.Portions.{Portion, reply, refused, portion}
 use Rattle.rule.specs.Rule.{tetRule}
 use Rattle.records.specs.declared.Answer.{Answer}
@@ -39,6 +38,11 @@ module _ (x : ℕ) (m : Mesh) (n : ℕ) where
   tableLeft table room =
       cond (eqb (barred (length table) room) 0) (tableOf m n ++ drop (length (tableOf m n)) table) table
 
+  -- the room at exit: the records from its beginning on, and then the entries that were there
+  abbrev pub roomLeft : List ℕ → ℕ → List ℕ → List ℕ
+  roomLeft k table room =
+      portionBy k table (length room) .written ++ drop (length (portionBy k table (length room) .written)) room
+
   -- what a call promises, from the mark k on with this table and this room: its answer, and what it leaves in both
   pub record Kept (k table room : List ℕ) (a : Answer) (table′ room′ : List ℕ) : Type 0 where
     -- the answer by its number and values
@@ -47,8 +51,7 @@ module _ (x : ℕ) (m : Mesh) (n : ℕ) where
     -- how many records it tells of, refusal 12 too
     pub counted : tetRule .size * wrote a ≡ length (portionBy k (length table) (length room) .written)
     pub tabled : table′ ≡ tableLeft table (length room)
-    -- the records from the room's beginning, and then the entries that were there
-    pub stored : room′ ≡ portionBy k (length table) (length room) .written ++ drop (length (portionBy k (length table) (length room) .written)) room
+    pub stored : room′ ≡ roomLeft k (length table) room
 
 -- of the file with these bytes
 abbrev pub Portioned : (f k table room : List ℕ) → Answer → (table′ room′ : List ℕ) → Type 0
