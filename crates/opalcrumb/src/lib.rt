@@ -2,6 +2,8 @@
 // A slice is a pointer and then a length. Every function answers 0, or the number of a refusal; what a refusal leaves
 // unchanged is said at each.
 use mesh::Checked;
+use records::Answer;
+use records::Mark;
 use space::Boxed;
 use space::Point;
 use templates::Least;
@@ -10,7 +12,8 @@ ghost use lib.ListN.{length};
 ghost use Rattle.space.specs.Box.{boxed, boxNumber};
 ghost use Rattle.mesh.specs.Check.{refusal, number};
 ghost use Rattle.templates.specs.Least.{leastForm, leastNumber};
-ghost use Rattle.opalcrumb.specs.Boundary.{pointOf, boxLeft, leastLeft};
+ghost use Rattle.records.specs.Marks.{markOf, answerNumber};
+ghost use Rattle.opalcrumb.specs.Boundary.{pointOf, boxLeft, leastLeft, nine, markLeft, countLeft, endLeft, Passed};
 
 fn number_of(answer: Checked) -> u32
     ensures { λ r. ⌜ r ≡ number answer ⌝ }
@@ -94,4 +97,71 @@ pub extern "C" fn opalcrumb_least_form(kind: u16, corners: &[u16; 8], least: &mu
         }
         Least::Refused => 13,
     }
+}
+
+// ---- a portion
+
+fn mark_of(n: [u16; 9]) -> Mark
+    ensures { λ r. ⌜ markOf r ≡ nine n ⌝ }
+{
+    Mark {
+        kind: n[0],
+        a: n[1],
+        b: n[2],
+        c: n[3],
+        d: n[4],
+        e: n[5],
+        f: n[6],
+        g: n[7],
+        h: n[8],
+    }
+}
+
+fn numbers_of(m: Mark) -> [u16; 9]
+    ensures { λ r. ⌜ r ≡ markOf m ⌝ }
+{
+    [m.kind, m.a, m.b, m.c, m.d, m.e, m.f, m.g, m.h]
+}
+
+// An answer handed out: its number, and in the lent places what it tells.
+fn hand_out(answer: Answer, mark: &mut [u16; 9], count: &mut u32, end: &mut u32) -> u32
+    ensures number { λ k. ⌜ k ≡ answerNumber answer ⌝ }
+    ensures mark { λ k. ⌜ now (mark .exit) ≡ markLeft answer (now (mark .entry)) ⌝ }
+    ensures count { λ k. ⌜ now (count .exit) ≡ countLeft answer (now (count .entry)) ⌝ }
+    ensures end { λ k. ⌜ now (end .exit) ≡ endLeft answer (now (end .entry)) ⌝ }
+{
+    match answer {
+        Answer::Refused(number) => number as u32,
+        Answer::Long(written) => {
+            *count = (written % 4294967296) as u32;
+            12
+        }
+        Answer::Given {
+            count: written,
+            none_remain,
+            mark: next,
+        } => {
+            *mark = numbers_of(next);
+            *count = (written % 4294967296) as u32;
+            *end = none_remain as u32;
+            0
+        }
+    }
+}
+
+// 0 and the cells after the mark, or refusal 1 to 12. On 0 the mark is the one to go on from, `count` how many records
+// were written and `end` 1 where none remain. On 12 `count` is what was written before it; else nothing is written.
+#[no_mangle]
+pub extern "C" fn opalcrumb_portion(
+    file: &[u8],
+    mark: &mut [u16; 9],
+    table: &mut [u16],
+    records: &mut [u16],
+    count: &mut u32,
+    end: &mut u32,
+) -> u32
+    ensures { λ k. ⌜ Passed (now (file .entry)) (now (mark .entry)) (now (table .entry)) (now (records .entry)) (now (count .entry)) (now (end .entry)) k (now (mark .exit)) (now (table .exit)) (now (records .exit)) (now (count .exit)) (now (end .exit)) ⌝ }
+{
+    let answer = listing::portion(file, mark_of(*mark), table, records);
+    hand_out(answer, mark, count, end)
 }
