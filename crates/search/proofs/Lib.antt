@@ -1,6 +1,7 @@
 pub mod Levels
 pub mod Prune
 pub mod Joined
+pub mod Ahead
 pub mod Tables
 pub mod Scanning
 pub mod Leaves
