@@ -83,6 +83,11 @@ ahead-at k d h l =
     let f = or-second (leb d 1) _ e (lt-leb d 1 l) in
     (both-left (follows t (look x 0) (look x 1) d) _ f, both-right (follows t (look x 0) (look x 1) d) _ f)
 
+pub follows-below : (t : Template) (u w d : ℕ) → follows t u w d ≡ true → (u < d) × (w < d)
+unfolding follows
+follows-below t u w d e =
+    let f = both-left (ltb u d && ltb w d) _ e in (ltb-true u d (both-left (ltb u d) _ f), ltb-true w d (both-right (ltb u d) _ f))
+
 -- ── facets ──
 
 or-right : (a : Bool) {b : Bool} → b ≡ true → (a || b) ≡ true
@@ -150,7 +155,7 @@ module _ (zs : List ℤ) (ls ps : List ℕ) (k : ℕ) (s : List ℕ) (leaf : isL
   pub leaf-closes : (u w d : ℕ) → d < templateOf k .corners → follows (templateOf k) u w d ≡ true → Closes ls (getD s u 0) (getD s w 0) (getD s d 0)
   unfolding follows linked
   leaf-closes u w d h e =
-      let low = ltb-true u d (both-left (ltb u d) _ (both-left (ltb u d && ltb w d) _ e)) in
+      let low = follows-below t u w d e .0 in
       let way = any-at (all (linked t u w d)) (ways t) (both-right (ltb u d && ltb w d) _ e) in
       let fs = any-at (all (isFacet m t c)) (way .0) (all-at (any (all (isFacet m t c))) (ways t) ways-hold (way .1)) in
       let l = all-at (linked t u w d) (way .0) (way .2) (fs .1) in

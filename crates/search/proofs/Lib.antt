@@ -5,3 +5,4 @@ pub mod Ahead
 pub mod Tables
 pub mod Scanning
 pub mod Leaves
+pub mod Hunting

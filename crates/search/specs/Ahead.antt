@@ -1,8 +1,8 @@
 -- Looking ahead: at each place from the third on, two corners of a face that the new corner follows, twice.
 -- Assumes nothing.
-use Prim.Native.Nat.{ℕ, _+_, _*_}
+use Prim.Native.Nat.{ℕ, _+_, _*_, _<_}
 use mathlib.Core.Path.{_≡_}
-use mathlib.Core.Bool.{true}
+use mathlib.Core.Bool.{Bool, true, false}
 use mathlib.Core.List.{List, [], _∷_}
 use lib.IntN.{ℤ}
 use lib.ListN.{getD, set}
@@ -29,3 +29,7 @@ pub record Follows (ls t : List ℕ) (x v : ℕ) : Type 0 where
 pub record Goes (zs : List ℤ) (ls : List ℕ) (x d : ℕ) (t : List ℕ) (v : ℕ) : Type 0 where
   pub fit : fits zs ls x d (set t d v) ≡ true
   pub follows : Follows ls t x v
+
+-- where r is false, v is not one of n vertices that is asked for
+pub record Stops (asked : ℕ → Type 0) (n v : ℕ) (r : Bool) : Type 0 where
+  pub none : r ≡ false → v < n → asked v → ⊥
