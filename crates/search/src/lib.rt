@@ -9,7 +9,7 @@ use templates::is_in;
 use verdict::judge;
 ghost use mathlib.Core.Path.{_≡_};
 ghost use mathlib.Core.Logic.{_⊎_};
-ghost use mathlib.Core.Bool.{_&&_};
+ghost use mathlib.Core.Bool.{true, _&&_};
 ghost use mathlib.Core.List.{List, []};
 ghost use Prim.Native.Nat.{ℕ, _+_, _/_, _<_, _≤_};
 ghost use lib.Dec.{leb, ltb};
@@ -610,6 +610,13 @@ fn hunt(
     n
 }
 
+// Whether to look ahead at a place: it pays where the joined corner has many neighbours, and serves from the third place on.
+fn is_hub(d: usize, size: usize) -> bool
+    ensures { λ r. ⌜ (r ≡ true → 1 < d) ⌝ }
+{
+    if 1 < d { 48 < size } else { false }
+}
+
 // Where to go on at place d from lo: a vertex with which the tuple passes, or n. No cell is left out before it.
 fn seek(
     coords: &[i64],
@@ -631,11 +638,11 @@ fn seek(
         return lo;
     }
     let x = base_of(kind) + d;
-    if 1 < d {
-        return hunt(coords, labels, n, offsets, entries, t, x, d, lo);
-    }
     let u = t[joined_of(x)];
     let r = row_of(labels, n, table, Vertex(u));
+    if is_hub(d, r.size) {
+        return hunt(coords, labels, n, offsets, entries, t, x, d, lo);
+    }
     let from = r.from;
     let end = from + r.size;
     scan(
