@@ -1,23 +1,22 @@
 -- What a header that is not refused tells of the file, and what the file then says. Assumes nothing.
-use mathlib.Core.Path.{_≡_, refl, sym, _∙_, ap}
-use mathlib.Core.List.{List, [], _∷_, map}
+use mathlib.Core.Path.{_≡_, refl}
+use mathlib.Core.List.{List, [], _∷_}
 use mathlib.Core.Bool.{Bool, true, false, cond, _&&_}
-use Prim.Native.Nat.{ℕ, zero, suc, _+_, _*_, _/_, _%_, _≤_, _<_}
-use lib.ListN.{length, drop, getD, length-drop}
+use Prim.Native.Nat.{ℕ, zero, suc, _+_, _*_, _/_, _%_, _≤_}
+use lib.ListN.{length, getD, length-drop}
 use lib.IntN.{ℤ, pos}
 use native.Mathlib.Omega.{arith}
 use lib.Dec.{leb, eqb}
 use borrow.Author.Tests.{leb-true, eqb-true}
-use Rattle.base.specs.Lists.{all, upTo}
+use Rattle.base.specs.Lists.{all}
 use Rattle.base.specs.Size.{Small}
 use Rattle.base.proofs.Bools.{and-left, and-right}
-use Rattle.base.proofs.Loop.{getD-up, getD-past, length-up}
+use Rattle.base.proofs.Loop.{length-up}
 use Rattle.space.specs.Box.{near}
 use Rattle.space.specs.Arrays.{Close}
 use Rattle.space.proofs.Near.{near-small}
 use Rattle.layout.specs.Bytes.{u16At, u32At, i32At}
-use Rattle.layout.specs.Layout.{vertices, tets, lengthRight, countsRight, layoutRight, headed, Framed, vertexPart, tetPart, coordsIn, labelsIn, partsIn, coordsOf, labelsOf, partsOf, coordinatesRight}
-use Rattle.layout.specs.declared.Headed.{Headed}
+use Rattle.layout.specs.Layout.{vertices, tets, lengthRight, countsRight, layoutRight, headed, Framed, vertexPart, tetPart, coordsIn, labelsIn, partsIn, coordsOf, coordinatesRight}
 use Rattle.layout.specs.declared.Headed.the-variants.{Sound, Length, Counts, Layout}
 
 -- ---- the tests of the header, one by one

@@ -1,14 +1,13 @@
 -- What stands at each place of the lists that the file says, and of its mesh. Assumes nothing.
-use mathlib.Core.Path.{_≡_, refl, _∙_, ap}
-use mathlib.Core.List.{List, []}
+use mathlib.Core.Path.{_≡_, _∙_, ap}
+use mathlib.Core.List.{List}
 use Prim.Native.Nat.{ℕ, _+_, _*_, _/_, _%_, _<_}
 use native.Mathlib.Omega.{arith}
 use lib.ListN.{length, getD}
-use lib.IntN.{ℤ, pos}
+use lib.IntN.{pos}
 use Rattle.base.proofs.Loop.{getD-up}
-use Rattle.space.specs.declared.Point.{Point}
-use Rattle.space.specs.Mesh.{Mesh, Tetrahedron, point}
-use Rattle.space.specs.Arrays.{pointAt, tetAt, row4}
+use Rattle.space.specs.Mesh.{Tetrahedron, point}
+use Rattle.space.specs.Arrays.{pointAt, tetAt}
 use Rattle.layout.specs.Bytes.{u16At, i32At}
 use Rattle.layout.specs.Layout.{vertexPart, tetPart, coordsIn, labelsIn, partsIn, meshIn}
 use Rattle.layout.proofs.Framed.{coords-long, labels-long}

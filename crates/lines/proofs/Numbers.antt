@@ -10,7 +10,7 @@ use Rattle.base.specs.Laid.{Laid}
 use Rattle.base.proofs.Lay.{laid-more}
 use lib.Seq.{take-suc, length-take-le}
 use Rattle.base.specs.Lists.{spread}
-use Rattle.lines.specs.Text.{decimal, spaced, numbers, cornersText, tetsText}
+use Rattle.lines.specs.Text.{decimal, spaced, numbers, cornersText, tetsText, cellLine}
 use Rattle.lines.proofs.Digits.{decimal-length}
 
 pub spaced-length : (x : ℕ) → length (spaced x) ≤ 21
@@ -53,6 +53,17 @@ corners-length r =
 pub tets-length : (r : List ℕ) → length (tetsText r) ≤ 527
 unfolding tetsText
 tets-length r = omega (arith, most-length (drop 10 r) (min (getD r 9 0) 25) 25 (omega arith))
+
+pub line-length : (r : List ℕ) → length (cellLine r) ≤ 716
+unfolding cellLine
+line-length r =
+    omega (
+      arith,
+      length-append (cornersText r ++ tetsText r) (10 ∷ []),
+      length-append (cornersText r) (tetsText r),
+      corners-length r,
+      tets-length r,
+    )
 
 -- two texts, one behind the other
 module _ {from r s : ℕ} {xs ys zs old l m : List ℕ} (e : r ≡ from + length xs) (d : Laid from xs old l) where

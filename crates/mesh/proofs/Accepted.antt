@@ -18,8 +18,7 @@ use Rattle.layout.specs.declared.Headed.{Headed}
 use Rattle.layout.specs.declared.Headed.the-variants.{Sound as HSound, Length as HLength, Counts as HCounts, Layout as HLayout}
 use Rattle.layout.proofs.Framed.{framed, near-close, coords-long, labels-long}
 use Rattle.mesh.specs.Check.{answered, faultIn, partsChecked, checked}
-use Rattle.mesh.specs.declared.Checked.{Checked}
-use Rattle.mesh.specs.declared.Checked.the-variants.{Accepted, Length, Counts, Layout, Coordinate, Label, Twice, Flat, Crowded, Folded}
+use Rattle.mesh.specs.declared.Checked.the-variants.{Accepted, Coordinate, Label, Twice, Flat, Crowded, Folded}
 use Rattle.mesh.proofs.Parts.{joined, checked-is}
 
 answered-none : (k n t a b : ℕ) → answered k n t ≡ Accepted a b → (k ≡ 0) × ((n ≡ a) × (t ≡ b))

@@ -1,20 +1,17 @@
 -- What the readers of the view read is the mesh that the file holds. Assumes nothing.
-use mathlib.Core.Path.{_≡_, refl, sym, _∙_, ap}
+use mathlib.Core.Path.{_≡_, sym, _∙_, ap}
 use mathlib.Core.List.{List, []}
-use mathlib.Core.Bool.{Bool, true, _&&_}
+use mathlib.Core.Bool.{true, _&&_}
 use Prim.Native.Nat.{ℕ, _+_, _*_, _-_, _≤_, _<_}
-use native.Mathlib.Omega.{arith}
 use lib.Dec.{leb, eqb}
-use lib.ListN.{length, take, drop, getD}
+use lib.ListN.{length, take, drop}
 use borrow.Author.Tests.{leb-true, eqb-true}
 use Rattle.base.proofs.Bools.{and-left, and-right}
 use Rattle.base.proofs.Loop.{part-is}
 use Rattle.space.specs.declared.Point.{Point}
-use Rattle.space.specs.declared.Vertex.{Vertex}
 use Rattle.space.specs.Mesh.{point}
-use Rattle.space.specs.Arrays.{tetAt}
 use Rattle.layout.specs.Bytes.{u16At}
-use Rattle.layout.specs.Layout.{meshIn, tetPart, labelsIn, partsIn}
+use Rattle.layout.specs.Layout.{meshIn, tetPart}
 use Rattle.layout.proofs.Says.{point-is, tet-is, label0, label1, label2, label3, part-at}
 use Rattle.mesh.specs.View.{fits, tet, vertexAt}
 use Rattle.mesh.specs.Reads.{pointRead, tetraRead}

@@ -6,7 +6,6 @@ use Prim.Native.Nat.{ℕ}
 use Rattle.facets.specs.Facets.{refused5, refused6, refused7, refused8, refused9, faultOf}
 use Rattle.layout.specs.Layout.{vertices, tets, lengthRight, countsRight, layoutRight, coordinatesRight, coordsOf, labelsOf}
 use Rattle.mesh.specs.Check.{answered, checked, number, refusal}
-use Rattle.mesh.specs.declared.Checked.{Checked}
 use Rattle.mesh.specs.declared.Checked.the-variants.{Length, Counts, Layout, Coordinate}
 
 -- the first of nine tests that fails, tested in this order

@@ -16,14 +16,11 @@ use Rattle.mesh.specs.Check.{checked, number, refusal}
 use Rattle.mesh.specs.View.{sizesOf, sizesIn, fits, tet, vertexAt, placeIn, tetraIn, partIn}
 use Rattle.mesh.specs.declared.Checked.{Checked}
 use Rattle.mesh.specs.declared.Checked.the-variants.{Accepted, Length, Counts, Layout, Coordinate, Label, Twice, Flat, Crowded, Folded}
-use Rattle.mesh.specs.declared.Place.{Place}
 use Rattle.mesh.specs.declared.Place.the-variants.{At, Nowhere}
-use Rattle.mesh.specs.declared.Tetra.{Tetra}
 use Rattle.mesh.specs.declared.Tetra.the-variants.{Joins, NoTet}
-use Rattle.mesh.specs.declared.Part.{Part}
 use Rattle.mesh.specs.declared.Part.the-variants.{Number, NoPart}
 use Rattle.mesh.specs.declared.View.{View}
-use Rattle.mesh.proofs.Accepted.{Given, accepted-gives}
+use Rattle.mesh.proofs.Accepted.{accepted-gives}
 
 -- the counts of the view
 pub sizes-accepted : (f : List ℕ) (n t : ℕ) → checked f ≡ Accepted n t → sizesIn f ≡ record { n = n; t = t }

@@ -1,5 +1,5 @@
 -- The parts of a file, as `check` hands them on, and the answer in terms of the header's. Assumes nothing.
-use mathlib.Core.Path.{_≡_, refl, sym, _∙_, ap}
+use mathlib.Core.Path.{_≡_, refl, sym, _∙_}
 use mathlib.Core.List.{List}
 use mathlib.Core.Bool.{Bool, true, false, cond}
 use Prim.Native.Nat.{ℕ, _+_, _*_, _-_}
@@ -14,9 +14,9 @@ use Rattle.layout.specs.Layout.{vertices, tets, lengthRight, countsRight, layou
 use Rattle.layout.specs.declared.Headed.{Headed}
 use Rattle.layout.specs.declared.Headed.the-variants.{Sound, Length as HLength, Counts as HCounts, Layout as HLayout}
 use Rattle.layout.proofs.Framed.{near-close}
-use Rattle.mesh.specs.Check.{answered, faultIn, partsChecked, checked}
+use Rattle.mesh.specs.Check.{faultIn, partsChecked, checked}
 use Rattle.mesh.specs.declared.Checked.{Checked}
-use Rattle.mesh.specs.declared.Checked.the-variants.{Accepted, Length, Counts, Layout, Coordinate}
+use Rattle.mesh.specs.declared.Checked.the-variants.{Length, Counts, Layout}
 
 -- what was read of `&file[24..]` and of `&file[24 + 12 * n..]` is what the parts say
 module _ (f : List ℕ) where

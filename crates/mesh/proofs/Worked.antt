@@ -1,11 +1,9 @@
 -- The rows of `specs/Rows.antt` hold, by computation. Assumes nothing.
 use Prim.Native.Nat.{ℕ}
-use mathlib.Core.Path.{_≡_, refl}
-use mathlib.Core.List.{List, [], _∷_, map}
+use mathlib.Core.Path.{refl}
 use Rattle.space.specs.Box.{box}
 use Rattle.layout.specs.Bytes.{signed32, i32At}
 use Rattle.layout.specs.Layout.{lengthRight, countsRight, layoutRight, coordsIn, labelsIn, partsIn, coordinatesRight}
-use Rattle.around.specs.Index.{hasAll}
 use Rattle.facets.specs.Facets.{boxAt, opposite, outside, twice, flat, full, crowded, astray, clashes, clashing, folded, refused5, refused6, refused7, refused8, refused9, faultOf}
 use Rattle.mesh.specs.Check.{answered, checked, number, refusal}
 use Rattle.mesh.specs.Rows.{Worked}

@@ -5,6 +5,7 @@ use mathlib.Core.Path.{_≡_, refl, sym, _∙_, ap, fun-ext}
 use mathlib.Core.Bool.{Bool, true, false, not, _&&_, _||_, false≢true, true≢false, and-true, and-comm}
 use mathlib.Core.List.{List, [], _∷_, map, List·Memᴰ, List·Memᴰ·head, List·Memᴰ·tail}
 use native.Mathlib.Omega.{arith}
+use native.Mathlib.Decide.{decLt}
 use borrow.Author.Tests.{eqb-false, ne-eqb, ltb-true, not-true}
 use lib.Dec.{eqb, ltb}
 use lib.IntN.{ℤ}
@@ -46,9 +47,25 @@ apart x (z ∷ zs) e (List·Memᴰ·tail h) p = apart x zs (go (eqb x z) e) h p
     go true g = absurd (true≢false g)
     go false g = g
 
-or-either : (a b : Bool) {P : Type 0} → (a || b) ≡ true → (a ≡ true → P) → (b ≡ true → P) → P
+pub or-either : (a b : Bool) {P : Type 0} → (a || b) ≡ true → (a ≡ true → P) → (b ≡ true → P) → P
 or-either true b e f g = f refl
 or-either false b e f g = g e
+
+-- two places of a listed tuple have different vertices
+module _ (zs : List ℤ) (ls ps : List ℕ) (k : ℕ) (s : List ℕ) (leaf : isLeaf (meshOf zs ls ps) (templateOf k) s ≡ true) where
+  pub later-differs : (p d : ℕ) → p < d → d < templateOf k .corners → (getD s p 0 ≡ getD s d 0 → ⊥)
+  unfolding allowed
+  later-differs p d b h =
+      let v = getD s d 0 in
+      let n = not-true (isIn v (front d s)) (both-left (not (isIn v (front d s))) _ (leaf-allowed zs ls ps k s leaf d h)) in
+      apart v (front d s) n (map-has (λ i. getD s i 0) (upTo d) (from-has 0 d p (omega arith) (omega arith)))
+
+  pub leaf-apart : (p q : ℕ) → p < templateOf k .corners → q < templateOf k .corners → (p ≡ q → ⊥) → eqb (getD s p 0) (getD s q 0) ≡ false
+  leaf-apart p q a b z =
+      ne-eqb (getD s p 0) (getD s q 0) (elim (decLt p q) [
+        | yes l ↦ later-differs p q l b
+        | no l ↦ elim (decLt q p) [ yes g ↦ λ e. later-differs q p g a (sym e) | no g ↦ absurd (z (omega arith)) ]
+      ])
 
 pub record Joined (ls : List ℕ) (s : List ℕ) (p d : ℕ) : Type 0 where
   pub earlier : p < d
@@ -83,11 +100,7 @@ module _ (zs : List ℤ) (ls ps : List ℕ) (k : ℕ) (s : List ℕ) (leaf : isL
       (λ r. together-swap m (getD s p 0) (getD s d 0) ∙ ap (together m) (row-same 2 t d (d ∷ p ∷ []) e s s r (λ j l. refl)) ∙ f)
 
   differs : eqb (getD s p 0) (getD s d 0) ≡ false
-  unfolding allowed
-  differs =
-      let v = getD s d 0 in
-      let n = not-true (isIn v (front d s)) (both-left (not (isIn v (front d s))) _ (leaf-allowed zs ls ps k s leaf d h)) in
-      ne-eqb (getD s p 0) v (apart v (front d s) n (map-has (λ i. getD s i 0) (upTo d) (from-has 0 d p (omega arith) (omega (arith, before)))))
+  differs = ne-eqb (getD s p 0) (getD s d 0) (later-differs zs ls ps k s leaf p d before h)
 
   pub leaf-joined : Joined ls s (getD joined (base k + d) 0) d
   leaf-joined = record { earlier = before; edge = sym (together-bare zs ls ps (getD s p 0 ∷ getD s d 0 ∷ [])) ∙ edge-here; other = differs }

@@ -113,7 +113,7 @@ at-row c q w e =
     ap (at c) (sym (listed 0 q)) ∙ map-map (λ k. getD c k 0) (λ i. getD q i 0) (upTo (length q)) ∙ ap (λ k. map (λ i. getD c (getD q i 0) 0) (upTo k)) e
 
 -- an entry of a tuple in letter order
-at-place : (s ps : List ℕ) (k : ℕ) → k < length ps → getD (at s ps) k 0 ≡ getD s (getD ps k 0) 0
+pub at-place : (s ps : List ℕ) (k : ℕ) → k < length ps → getD (at s ps) k 0 ≡ getD s (getD ps k 0) 0
 at-place s (p ∷ ps) zero h = refl
 at-place s (p ∷ ps) (suc k) h = at-place s ps k (omega arith)
 at-place s [] k h = absurd (omega arith)

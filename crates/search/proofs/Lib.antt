@@ -1,6 +1,8 @@
 pub mod Levels
 pub mod Prune
 pub mod Joined
+pub mod Ahead
 pub mod Tables
 pub mod Scanning
 pub mod Leaves
+pub mod Hunting

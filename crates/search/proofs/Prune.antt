@@ -117,6 +117,9 @@ module _ (zs : List ℤ) (ls ps : List ℕ) (k : ℕ) (s : List ℕ) (leaf : isL
   faces : hasFaces m t c ≡ true
   faces = both-right (isTuple m t c && hasEdges m t c) _ firstThree
 
+  pub leaf-faces : hasFaces (meshOf zs ls ps) (templateOf k) (at s (templateOf k .places)) ≡ true
+  leaf-faces = faces
+
   pub leaf-edges : hasEdges (meshOf zs ls ps) (templateOf k) (at s (templateOf k .places)) ≡ true
   leaf-edges = both-right (isTuple m t c) _ (both-left (isTuple m t c && hasEdges m t c) _ firstThree)
 

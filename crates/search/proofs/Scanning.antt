@@ -59,6 +59,13 @@ module _ {ok : ℕ → Bool} {row : List ℕ} {lo : ℕ} where
   pub scan-none : {i : ℕ} → Missed ok row lo i → length row ≤ i → (n : ℕ) → Scanned ok row n lo n
   scan-none {i} a h n = record { index = i; missed = a .missed; here = inl (h, refl) }
 
+-- the tuple with the listed tuple's vertex at d begins as that one does
+pub set-agrees : (t : List ℕ) (d : ℕ) → d < length t → (s : List ℕ) → Agree d t s → (v : ℕ) → v ≡ getD s d 0 → Agree (d + 1) (set t d v) s
+set-agrees t d l s a v q =
+    below-more (λ j. getD (set t d v) j 0 ≡ getD s j 0) d
+    (λ j b. getD-set-other t d j v 0 (λ e. omega arith) ∙ a j b)
+    (getD-set-same t d v 0 l ∙ q)
+
 -- ── the scan of the right row ──
 
 module _ {zs : List ℤ} {ls : List ℕ} {n : ℕ} {os es table : List ℕ} (g : Ready zs ls n os es table) (k : ℕ) (t : List ℕ) (d : ℕ) (h : d < templateOf k .corners) (l : d < length t) (z : d ≡ 0 → ⊥) where
@@ -73,13 +80,6 @@ module _ {zs : List ℤ} {ls : List ℕ} {n : ℕ} {os es table : List ℕ} (g :
 
   points : (ps : List ℕ) → length (meshOf zs ls ps .points) ≡ n
   points ps = length-up (pointAt zs) (length zs / 3) ∙ g .counted
-
-  -- the tuple with the listed tuple's vertex at d begins as that one does
-  agrees : (s : List ℕ) → Agree d t s → (v : ℕ) → v ≡ getD s d 0 → Agree (d + 1) (set t d v) s
-  agrees s a v q =
-      below-more (λ j. getD (set t d v) j 0 ≡ getD s j 0) d
-      (λ j b. getD-set-other t d j v 0 (λ e. omega arith) ∙ a j b)
-      (getD-set-same t d v 0 l ∙ q)
 
   module _ {u : ℕ} (q : u ≡ getD t p 0) {r : Row} (w : RowOf (meshOf [] ls []) n table u r) where
     entry : u < n → (i : ℕ) → i < length (neighboursOf (meshOf [] ls []) n u) → getD (rowAt r) i 0 ≡ getD (neighboursOf (meshOf [] ls []) n u) i 0
@@ -123,7 +123,7 @@ module _ {zs : List ℤ} {ls : List ℕ} {n : ℕ} {os es table : List ℕ} (g :
       ]
 
       none : ⊥
-      none = here (c .here) (λ b. c .missed (found .0) b (omega (arith, value)) (passes zs ls ps k s leaf d h (set t d (getD (rowAt r) (found .0) 0)) (agrees s a (getD (rowAt r) (found .0) 0) value)))
+      none = here (c .here) (λ b. c .missed (found .0) b (omega (arith, value)) (passes zs ls ps k s leaf d h (set t d (getD (rowAt r) (found .0) 0)) (set-agrees t d l s a (getD (rowAt r) (found .0) 0) value)))
 
     pub seek-skips : {lo v : ℕ} → Scanned (λ v. fits zs ls (base k + d) d (set t d v)) (take (r .from + r .size - r .from) (drop (r .from) table)) n lo v → (ps : List ℕ) → Skips (isLeaf (meshOf zs ls ps) (templateOf k)) t d n lo v
     seek-skips {lo} {v} c ps = record {

@@ -1,6 +1,6 @@
 -- What the code asks of the constant tables, by computed tests.
 -- Assumes nothing.
-use Prim.Native.Nat.{ℕ, zero, suc, _+_, _<_, _≤_}
+use Prim.Native.Nat.{ℕ, zero, suc, _+_, _*_, _<_, _≤_}
 use mathlib.Core.Path.{_≡_, refl}
 use mathlib.Core.Bool.{Bool, true, false, cond, _&&_}
 use mathlib.Core.List.{List, [], _∷_}
@@ -14,6 +14,7 @@ use Rattle.base.proofs.Members.{from-has}
 use Rattle.templates.specs.Tables.{hexahedron, prism, pyramid, templateOf}
 use Rattle.search.specs.Levels.{base, triangles, trianglesAt, quads, quadsAt, triples, triplesAt, lesser, joined}
 use Rattle.search.specs.Ready.{Cut}
+use Rattle.search.specs.Ahead.{ahead, look}
 
 pub entry-below : (n : ℕ) (l : List ℕ) → 0 < n → all (λ y. ltb y n) l ≡ true → (i : ℕ) → getD l i 0 < n
 entry-below n [] z e i = z
@@ -25,6 +26,9 @@ lesser-few x = entry-below 3 lesser (omega arith) refl x
 
 pub joined-few : (x : ℕ) → getD joined x 0 < 8
 joined-few x = entry-below 8 joined (omega arith) refl x
+
+pub look-few : (x i : ℕ) → look x i < 8
+look-few x i = entry-below 8 ahead (omega arith) refl (4 * x + i)
 
 unfoldable isCut : List ℕ → List ℕ → ℕ → Bool
 isCut rows starts x = leb (getD starts x 0) (getD starts (x + 1) 0) && leb (getD starts (x + 1) 0) (length rows)

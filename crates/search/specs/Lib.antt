@@ -1,3 +1,4 @@
 pub mod Levels
 pub mod Prune
 pub mod Ready
+pub mod Ahead

@@ -1,5 +1,6 @@
 // The search for the next cell of a kind: the least tuple after a tuple that is a cell in least form, by an odometer over one tuple with a level.
 // A tuple is kept in search order; x is the row of a place in the tables of the levels.
+use ahead::beyond;
 use cells::has_faces;
 use cells::is_sound;
 use neighbours::row_of;
@@ -23,9 +24,11 @@ ghost use Rattle.cells.specs.Rows.{tabled};
 ghost use Rattle.verdict.specs.Judged.{Arrays};
 ghost use Rattle.portions.specs.Tuples.{Skips, LeastAfter};
 ghost use Rattle.rule.specs.Rule.{isLeaf};
+ghost use Rattle.ahead.specs.Ahead.{Least};
 ghost use Rattle.search.specs.Levels.{base, lesser, joined, part, levelOf};
 ghost use Rattle.search.specs.Prune.{comesAfter, fits};
 ghost use Rattle.search.specs.Ready.{Ready, Cut, Scanned, Begins};
+ghost use Rattle.search.specs.Ahead.{look, Follows, Goes, Stops};
 
 // The tuple that was found, in search order.
 pub struct Found {
@@ -204,6 +207,85 @@ const TRIPLES_AT: [u8; 20] = [
 const LESSER: [usize; 19] = [0, 1, 2, 2, 1, 1, 1, 1, 0, 1, 1, 1, 1, 1, 0, 1, 1, 1, 0];
 
 const JOINED: [usize; 19] = [0, 0, 0, 0, 1, 1, 2, 4, 0, 0, 0, 0, 1, 2, 0, 0, 1, 0, 0];
+
+const AHEAD: [usize; 76] = [
+    0,
+    0,
+    0,
+    0,
+    0,
+    0,
+    0,
+    0,
+    0,
+    1,
+    0,
+    1,
+    0,
+    2,
+    0,
+    1,
+    2,
+    0,
+    1,
+    0,
+    1,
+    4,
+    3,
+    0,
+    2,
+    4,
+    3,
+    5,
+    4,
+    1,
+    5,
+    3,
+    0,
+    0,
+    0,
+    0,
+    0,
+    0,
+    0,
+    0,
+    1,
+    0,
+    0,
+    1,
+    0,
+    2,
+    0,
+    1,
+    1,
+    2,
+    3,
+    0,
+    2,
+    1,
+    3,
+    4,
+    0,
+    0,
+    0,
+    0,
+    0,
+    0,
+    0,
+    0,
+    1,
+    0,
+    1,
+    0,
+    2,
+    1,
+    0,
+    1,
+    1,
+    0,
+    2,
+    3,
+];
 
 fn wide(x: u16) -> usize
     ensures { λ r. ⌜ (r ≡ x) × (r < 65536) ⌝ }
@@ -434,6 +516,100 @@ fn joined_of(x: usize) -> usize
     JOINED[x]
 }
 
+// ---- looking ahead
+
+// The place at entry i of the look-ahead's row x.
+fn look_of(x: usize, i: usize) -> usize
+    requires { ⌜ (x < 19) × (i < 4) ⌝ }
+    ensures { λ r. ⌜ (r ≡ look x i) × (r < 8) ⌝ }
+{
+    AHEAD[4 * x + i]
+}
+
+// The least vertex from lo on that can follow both pairs of row x, or n; one that follows the second alone may come before it.
+fn leap(
+    labels: &[u16],
+    n: usize,
+    offsets: &[u16],
+    entries: &[u16],
+    t: [u16; 8],
+    x: usize,
+    lo: usize,
+) -> usize
+    requires { ⌜ Indexed (now labels) n (now offsets) (now entries) × (x < 19) ⌝ }
+    ensures { λ r. ⌜ Least (Follows (now (labels .entry)) t x) lo n r ⌝ }
+{
+    let u = t[look_of(x, 0)];
+    let w = t[look_of(x, 1)];
+    let v = beyond(labels, n, offsets, entries, Vertex(u), Vertex(w), lo);
+    let y = t[look_of(x, 2)];
+    let z = t[look_of(x, 3)];
+    beyond(labels, n, offsets, entries, Vertex(y), Vertex(z), v)
+}
+
+// The tuple goes on with v at place d: where this is false, no cell does. The cheap test comes first.
+fn goes_on(
+    coords: &[i64],
+    labels: &[u16],
+    n: usize,
+    offsets: &[u16],
+    entries: &[u16],
+    t: [u16; 8],
+    x: usize,
+    d: usize,
+    v: usize,
+) -> bool
+    requires { ⌜ (Close (now coords) × Indexed (now labels) n (now offsets) (now entries)) × (n ≤ 512) ⌝ }
+    requires { ⌜ (x < 19) × (d < 8) ⌝ }
+    ensures { λ r. ⌜ Stops (Goes (now (coords .entry)) (now (labels .entry)) x d t) n v r ⌝ }
+{
+    if n <= v {
+        return false;
+    }
+    if !tries(
+        coords,
+        labels,
+        n,
+        offsets,
+        entries,
+        t,
+        x,
+        d,
+        0,
+        Vertex(v as u16),
+    ) {
+        return false;
+    }
+    leap(labels, n, offsets, entries, t, x, v) == v
+}
+
+// A vertex from lo on with which the tuple goes on at place d, or n. No cell is left out before it.
+fn hunt(
+    coords: &[i64],
+    labels: &[u16],
+    n: usize,
+    offsets: &[u16],
+    entries: &[u16],
+    t: [u16; 8],
+    x: usize,
+    d: usize,
+    lo: usize,
+) -> usize
+    requires { ⌜ (Close (now coords) × Indexed (now labels) n (now offsets) (now entries)) × (n ≤ 512) ⌝ }
+    requires { ⌜ (x < 19) × (d < 8) ⌝ }
+    ensures { λ r. ⌜ Least (Goes (now (coords .entry)) (now (labels .entry)) x d t) lo n r ⌝ }
+{
+    let mut v = lo;
+    while v < n {
+        let r = leap(labels, n, offsets, entries, t, x, v);
+        if goes_on(coords, labels, n, offsets, entries, t, x, d, r) {
+            return r;
+        }
+        v = r + 1;
+    }
+    n
+}
+
 // Where to go on at place d from lo: a vertex with which the tuple passes, or n. No cell is left out before it.
 fn seek(
     coords: &[i64],
@@ -455,6 +631,9 @@ fn seek(
         return lo;
     }
     let x = base_of(kind) + d;
+    if 1 < d {
+        return hunt(coords, labels, n, offsets, entries, t, x, d, lo);
+    }
     let u = t[joined_of(x)];
     let r = row_of(labels, n, table, Vertex(u));
     let from = r.from;

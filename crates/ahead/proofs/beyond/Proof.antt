@@ -1,0 +1,52 @@
+-- `ahead::beyond` meets its contract. Assumes nothing.
+use Rattle.around.proofs.Around.{row-slice, slice-within}
+use Rattle.ahead.proofs.Least.{closes-least}
+use borrow.Author.Needs.{needs}
+use Rattle.ahead.proofs.beyond.Statement.{statement}
+use Rattle.ahead.proofs.beyond.Tie as tie
+
+rarest-requires : tie.Need-rarest-requires
+rarest-requires c κs = search needs
+
+row-of-requires : tie.Need-row-of-requires
+row-of-requires c κs = search needs
+
+add-end : tie.Need-add-end
+add-end c = search needs
+
+mul-beside-row : tie.Need-mul-beside-row
+mul-beside-row c = search needs
+
+sub-beside-row : tie.Need-sub-beside-row
+sub-beside-row c = search needs
+
+part-beside-row-start : tie.Need-part-beside-row-start
+part-beside-row-start c = search needs
+
+part-beside-row-end : tie.Need-part-beside-row-end
+part-beside-row-end c = search needs
+
+beside-row-requires : tie.Need-beside-row-requires
+beside-row-requires c κs =
+    let d = c .before .before in
+    (d .before .before .before .before .before .pre, slice-within (d .row-of .ensures))
+
+returns : tie.Need-returns
+returns c =
+    let d = c .before .before .before in
+    let s = d .before .before .before .before .before .args in
+    closes-least (s .labels .now) (s .u .0) (s .w .0) (rw (row-slice (d .row-of .ensures), d .before .rarest .ensures) at (c .beside-row .ensures))
+
+pub beyond-spec : {M : Type 1} → statement M
+beyond-spec =
+    tie.close
+    (tie.spec
+    rarest-requires
+    row-of-requires
+    add-end
+    mul-beside-row
+    sub-beside-row
+    part-beside-row-start
+    part-beside-row-end
+    beside-row-requires
+    returns)

@@ -1,0 +1,52 @@
+-- Looking ahead of a cell's face: what three corners in a row must allow while the fourth is not yet known.
+-- Assumes nothing.
+use Prim.Native.Nat.{ℕ, _≤_, _<_}
+use mathlib.Core.Path.{_≡_}
+use mathlib.Core.Bool.{Bool, true, false}
+use mathlib.Core.List.{List, [], _∷_}
+use lib.Dec.{eqb}
+use lib.ListN.{getD}
+use Rattle.base.specs.Lists.{isIn}
+use Rattle.space.specs.Mesh.{together}
+use Rattle.space.specs.Arrays.{row4, meshOf}
+use Rattle.around.specs.Index.{hasAll}
+
+-- v makes a facet with u and another vertex x
+pub record Beside (ls : List ℕ) (u x v : ℕ) : Type 0 where
+  pub other : eqb x u ≡ false
+  pub facet : together (meshOf [] ls []) (u ∷ x ∷ v ∷ []) ≡ true
+
+-- w, u and v can be corners of a face in this order: a facet has the edge u w, and a facet has u, v and a further vertex of that facet
+pub record Closes (ls : List ℕ) (u w v : ℕ) : Type 0 where
+  pub via : ℕ
+  pub near : together (meshOf [] ls []) (u ∷ w ∷ via ∷ []) ≡ true
+  pub far : Beside ls u via v
+
+-- r is `best`, or a number from lo on below it, and none that is asked for from lo on is less
+pub record Least (asked : ℕ → Type 0) (lo best r : ℕ) : Type 0 where
+  pub most : r ≤ best
+  pub low : r < best → lo ≤ r
+  pub least : (v : ℕ) → asked v → lo ≤ v → r ≤ v
+
+-- ── what the loops ask for ──
+
+-- asked for by one of these vertices
+pub record ByOne (asked : ℕ → ℕ → Type 0) (xs : List ℕ) (v : ℕ) : Type 0 where
+  pub via : ℕ
+  pub inside : isIn via xs ≡ true
+  pub asks : asked via v
+
+-- asked for by one of the first i tetrahedra of a row that have the vertices vs
+pub record ByRow (asked : ℕ → ℕ → Type 0) (ls vs row : List ℕ) (i v : ℕ) : Type 0 where
+  pub place : ℕ
+  pub before : place < i
+  pub having : hasAll ls vs (getD row place 0) ≡ true
+  pub asks : asked (getD row place 0) v
+
+-- v is a vertex of tetrahedron e
+abbrev pub VertexOf : List ℕ → ℕ → ℕ → Type 0
+VertexOf ls e v = isIn v (row4 ls e) ≡ true
+
+-- v makes a facet with u and another vertex of tetrahedron e
+abbrev pub BesideTet : List ℕ → ℕ → ℕ → ℕ → Type 0
+BesideTet ls u e v = ByOne (Beside ls u) (row4 ls e) v

@@ -1,0 +1,195 @@
+// Looking ahead of a cell's face that has three known corners at most: which vertices can come next.
+// Rows are those of the tetrahedra around the rarer of two vertices, so that a vertex with many neighbours costs no more than its neighbours.
+use around::rarest;
+use around::row_of;
+use space::Tet;
+use space::Vertex;
+use space::tet_has2;
+ghost use mathlib.Core.Path.{_≡_};
+ghost use mathlib.Core.List.{[], _∷_};
+ghost use Prim.Native.Nat.{_/_, _<_};
+ghost use lib.Dec.{eqb};
+ghost use lib.ListN.{length};
+ghost use Rattle.around.specs.Index.{Indexed};
+ghost use Rattle.around.specs.Build.{Within};
+ghost use Rattle.ahead.specs.Ahead.{Closes, Least, Beside, ByRow, VertexOf, BesideTet};
+
+// v where it is from lo on and less than best, and else best.
+fn lower(v: Vertex, lo: usize, best: usize) -> usize
+    ensures { λ r. ⌜ Least (λ y. y ≡ v .0) lo best r ⌝ }
+{
+    let y = v.0 as usize;
+    if y < lo {
+        return best;
+    }
+    if y < best { y } else { best }
+}
+
+// The least of best and the tetrahedron's vertices from lo on.
+fn least_vertex(labels: &[u16], e: Tet, lo: usize, best: usize) -> usize
+    requires { ⌜ e .0 < length (now labels) / 4 ⌝ }
+    ensures { λ r. ⌜ Least (VertexOf (now (labels .entry)) (e .0)) lo best r ⌝ }
+{
+    let at = 4 * (e.0 as usize);
+    let a = lower(Vertex(labels[at]), lo, best);
+    let b = lower(Vertex(labels[at + 1]), lo, a);
+    let c = lower(Vertex(labels[at + 2]), lo, b);
+    lower(Vertex(labels[at + 3]), lo, c)
+}
+
+// The least of best and the vertices from lo on of the row's tetrahedra that have u and x.
+fn least_in_row(labels: &[u16], row: &[u16], u: Vertex, x: Vertex, lo: usize, best: usize) -> usize
+    requires { ⌜ Within (length (now labels) / 4) (now row) ⌝ }
+    ensures { λ r. ⌜ Least (ByRow (VertexOf (now (labels .entry))) (now (labels .entry)) (u .0 ∷ x .0 ∷ []) (now (row .entry)) (length (now (row .entry)))) lo best r ⌝ }
+{
+    let mut b = best;
+    let mut k = 0;
+    while k < row.len() {
+        let e = row[k];
+        if tet_has2(labels, Tet(e), u, x) {
+            b = least_vertex(labels, Tet(e), lo, b);
+        }
+        k += 1;
+    }
+    b
+}
+
+fn is_same(x: Vertex, u: Vertex) -> bool
+    ensures { λ r. ⌜ r ≡ eqb (x .0) (u .0) ⌝ }
+{
+    x.0 == u.0
+}
+
+// The least of best and the vertices from lo on that make a facet with u and x, where x is not u.
+fn beside(
+    labels: &[u16],
+    n: usize,
+    offsets: &[u16],
+    entries: &[u16],
+    u: Vertex,
+    x: Vertex,
+    lo: usize,
+    best: usize,
+) -> usize
+    requires { ⌜ Indexed (now labels) n (now offsets) (now entries) ⌝ }
+    ensures { λ r. ⌜ Least (Beside (now (labels .entry)) (u .0) (x .0)) lo best r ⌝ }
+{
+    if best <= lo {
+        return best;
+    }
+    if is_same(x, u) {
+        return best;
+    }
+    let y = rarest(labels, n, offsets, entries, u, x, x);
+    let row = row_of(labels, n, offsets, entries, y);
+    let from = row.from;
+    let end = from + row.size;
+    least_in_row(labels, &entries[from..end], u, x, lo, best)
+}
+
+// The same for each vertex x of a tetrahedron.
+fn beside_tet(
+    labels: &[u16],
+    n: usize,
+    offsets: &[u16],
+    entries: &[u16],
+    e: Tet,
+    u: Vertex,
+    lo: usize,
+    best: usize,
+) -> usize
+    requires { ⌜ Indexed (now labels) n (now offsets) (now entries) ⌝ }
+    requires { ⌜ e .0 < length (now labels) / 4 ⌝ }
+    ensures { λ r. ⌜ Least (BesideTet (now (labels .entry)) (u .0) (e .0)) lo best r ⌝ }
+{
+    let at = 4 * (e.0 as usize);
+    let a = beside(labels, n, offsets, entries, u, Vertex(labels[at]), lo, best);
+    let b = beside(
+        labels,
+        n,
+        offsets,
+        entries,
+        u,
+        Vertex(labels[at + 1]),
+        lo,
+        a,
+    );
+    let c = beside(
+        labels,
+        n,
+        offsets,
+        entries,
+        u,
+        Vertex(labels[at + 2]),
+        lo,
+        b,
+    );
+    beside(
+        labels,
+        n,
+        offsets,
+        entries,
+        u,
+        Vertex(labels[at + 3]),
+        lo,
+        c,
+    )
+}
+
+// The same for each vertex x of the row's tetrahedra that have u and w.
+fn beside_row(
+    labels: &[u16],
+    n: usize,
+    offsets: &[u16],
+    entries: &[u16],
+    row: &[u16],
+    u: Vertex,
+    w: Vertex,
+    lo: usize,
+    best: usize,
+) -> usize
+    requires { ⌜ Indexed (now labels) n (now offsets) (now entries) ⌝ }
+    requires { ⌜ Within (length (now labels) / 4) (now row) ⌝ }
+    ensures { λ r. ⌜ Least (ByRow (BesideTet (now (labels .entry)) (u .0)) (now (labels .entry)) (u .0 ∷ w .0 ∷ []) (now (row .entry)) (length (now (row .entry)))) lo best r ⌝ }
+{
+    let mut b = best;
+    let mut k = 0;
+    while k < row.len() {
+        let e = row[k];
+        if tet_has2(labels, Tet(e), u, w) {
+            b = beside_tet(labels, n, offsets, entries, Tet(e), u, lo, b);
+        }
+        k += 1;
+    }
+    b
+}
+
+// The least vertex from lo on that can follow w and u in a face, or n.
+pub fn beyond(
+    labels: &[u16],
+    n: usize,
+    offsets: &[u16],
+    entries: &[u16],
+    u: Vertex,
+    w: Vertex,
+    lo: usize,
+) -> usize
+    requires { ⌜ Indexed (now labels) n (now offsets) (now entries) ⌝ }
+    ensures { λ r. ⌜ Least (Closes (now (labels .entry)) (u .0) (w .0)) lo n r ⌝ }
+{
+    let y = rarest(labels, n, offsets, entries, u, w, w);
+    let row = row_of(labels, n, offsets, entries, y);
+    let from = row.from;
+    let end = from + row.size;
+    beside_row(
+        labels,
+        n,
+        offsets,
+        entries,
+        &entries[from..end],
+        u,
+        w,
+        lo,
+        n,
+    )
+}

@@ -1,0 +1,65 @@
+-- What the functions of the boundary leave in what they are lent.
+-- Assumes nothing.
+use Prim.Native.Nat.{ℕ, _%_}
+use mathlib.Core.Path.{_≡_}
+use mathlib.Core.Bool.{cond}
+use mathlib.Core.List.{List, [], _∷_}
+use lib.IntN.{ℤ, pos}
+use lib.ListN.{getD}
+use Rattle.space.specs.declared.Point.{Point}
+use Rattle.space.specs.declared.Boxed.{Boxed}
+use Rattle.space.specs.declared.Boxed.the-variants.{Value, Refused}
+use Rattle.records.specs.declared.Answer.{Answer}
+use Rattle.records.specs.declared.Answer.the-variants.{Refused as Barred, Long, Given}
+use Rattle.records.specs.Marks.{markOf, answerNumber}
+use Rattle.listing.specs.Portion.{Portioned}
+use Rattle.templates.specs.declared.Least.{Least}
+use Rattle.templates.specs.declared.Least.the-variants.{Form, Refused as NoForm}
+
+-- the point of three numbers
+abbrev pub pointOf : List ℤ → Point
+pointOf zs = record { x = getD zs 0 (pos 0); y = getD zs 1 (pos 0); z = getD zs 2 (pos 0) }
+
+-- the box, or what stood there
+abbrev pub boxLeft : Boxed → ℤ → ℤ
+boxLeft (Value b) old = b
+boxLeft Refused old = old
+
+-- the least form, or what stood there
+abbrev pub leastLeft : Least → List ℕ → List ℕ
+leastLeft (Form a b c d e f g h) old = a ∷ b ∷ c ∷ d ∷ e ∷ f ∷ g ∷ h ∷ []
+leastLeft NoForm old = old
+
+-- ---- a portion: what an answer leaves in the places lent for the mark, the count and the end
+
+-- the nine numbers of a mark
+abbrev pub nine : List ℕ → List ℕ
+nine xs =
+    getD xs 0 0 ∷ getD xs 1 0 ∷ getD xs 2 0 ∷ getD xs 3 0 ∷ getD xs 4 0 ∷ getD xs 5 0 ∷ getD xs 6 0 ∷ getD xs 7 0 ∷ getD xs 8 0 ∷ []
+
+-- the next mark, or the mark as it was
+abbrev pub markLeft : Answer → List ℕ → List ℕ
+markLeft (Barred k) old = old
+markLeft (Long n) old = old
+markLeft (Given count none mark) old = markOf mark
+
+-- how many records were written, at 32 bits, which no room that a machine has goes beyond; on refusals 1 to 11 as it was
+abbrev pub countLeft : Answer → ℕ → ℕ
+countLeft (Barred k) old = old
+countLeft (Long n) old = n % 4294967296
+countLeft (Given count none mark) old = count % 4294967296
+
+-- 1 where none remain, else 0; on a refusal as it was
+abbrev pub endLeft : Answer → ℕ → ℕ
+endLeft (Barred k) old = old
+endLeft (Long n) old = old
+endLeft (Given count none mark) old = cond none 1 0
+
+-- what a call promises of a file f: it is `listing::portion`'s answer that is handed out, and that function's table and room
+pub record Passed (f mark table room : List ℕ) (count end number : ℕ) (mark′ table′ room′ : List ℕ) (count′ end′ : ℕ) : Type 0 where
+  pub answer : Answer
+  pub portioned : Portioned f (nine mark) table room answer table′ room′
+  pub number-is : number ≡ answerNumber answer
+  pub mark-is : mark′ ≡ markLeft answer mark
+  pub count-is : count′ ≡ countLeft answer count
+  pub end-is : end′ ≡ endLeft answer end

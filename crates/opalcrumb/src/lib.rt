@@ -1,0 +1,167 @@
+// The library for programs in C and Rust: each function under its plain name, over numbers, slices and small arrays.
+// A slice is a pointer and then a length. Every function answers 0, or the number of a refusal; what a refusal leaves
+// unchanged is said at each.
+use mesh::Checked;
+use records::Answer;
+use records::Mark;
+use space::Boxed;
+use space::Point;
+use templates::Least;
+ghost use mathlib.Core.Path.{_≡_};
+ghost use lib.ListN.{length};
+ghost use Rattle.space.specs.Box.{boxed, boxNumber};
+ghost use Rattle.mesh.specs.Check.{refusal, number};
+ghost use Rattle.templates.specs.Least.{leastForm, leastNumber};
+ghost use Rattle.records.specs.Marks.{markOf, answerNumber};
+ghost use Rattle.opalcrumb.specs.Boundary.{pointOf, boxLeft, leastLeft, nine, markLeft, countLeft, endLeft, Passed};
+
+fn number_of(answer: Checked) -> u32
+    ensures { λ r. ⌜ r ≡ number answer ⌝ }
+{
+    match answer {
+        Checked::Accepted {
+            vertices: _,
+            tets: _,
+        } => 0,
+        Checked::Length => 1,
+        Checked::Counts => 2,
+        Checked::Layout => 3,
+        Checked::Coordinate => 4,
+        Checked::Label => 5,
+        Checked::Twice => 6,
+        Checked::Flat => 7,
+        Checked::Crowded => 8,
+        Checked::Folded => 9,
+    }
+}
+
+// 0 for a sound mesh, else refusal 1 to 9.
+#[no_mangle]
+pub extern "C" fn opalcrumb_check(file: &[u8]) -> u32
+    ensures { λ r. ⌜ r ≡ refusal (now (file .entry)) ⌝ }
+{
+    number_of(mesh::check(file))
+}
+
+// A 32-bit number at 64 bits.
+fn wide(x: i32) -> i64
+    ensures { λ r. ⌜ r ≡ x ⌝ }
+{
+    x as i64
+}
+
+fn point_of(p: &[i32]) -> Point
+    requires { ⌜ length (now p) ≡ 3 ⌝ }
+    ensures { λ r. ⌜ r ≡ pointOf (now (p .entry)) ⌝ }
+{
+    Point {
+        x: wide(p[0]),
+        y: wide(p[1]),
+        z: wide(p[2]),
+    }
+}
+
+// 0 and the box product of four points, or 4 where a coordinate is out of bounds, and `value` as it was.
+#[no_mangle]
+pub extern "C" fn opalcrumb_box(
+    p: &[i32; 3],
+    q: &[i32; 3],
+    r: &[i32; 3],
+    s: &[i32; 3],
+    value: &mut i64,
+) -> u32
+    ensures answer { λ k. ⌜ k ≡ boxNumber (boxed (pointOf (now (p .entry))) (pointOf (now (q .entry))) (pointOf (now (r .entry))) (pointOf (now (s .entry)))) ⌝ }
+    ensures value { λ k. ⌜ now (value .exit) ≡ boxLeft (boxed (pointOf (now (p .entry))) (pointOf (now (q .entry))) (pointOf (now (r .entry))) (pointOf (now (s .entry)))) (now (value .entry)) ⌝ }
+{
+    let answer = space::box_product(point_of(p), point_of(q), point_of(r), point_of(s));
+    match answer {
+        Boxed::Value(b) => {
+            *value = b;
+            0
+        }
+        Boxed::Refused => 4,
+    }
+}
+
+// 0 and the least form of a tuple, with 0 in unused places, or 13, and `least` as it was.
+#[no_mangle]
+pub extern "C" fn opalcrumb_least_form(kind: u16, corners: &[u16; 8], least: &mut [u16; 8]) -> u32
+    ensures answer { λ k. ⌜ k ≡ leastNumber (leastForm kind (now (corners .entry))) ⌝ }
+    ensures least { λ k. ⌜ now (least .exit) ≡ leastLeft (leastForm kind (now (corners .entry))) (now (least .entry)) ⌝ }
+{
+    let answer = templates::least_form(kind, *corners);
+    match answer {
+        Least::Form(a, b, c, d, e, f, g, h) => {
+            *least = [a, b, c, d, e, f, g, h];
+            0
+        }
+        Least::Refused => 13,
+    }
+}
+
+// ---- a portion
+
+fn mark_of(n: [u16; 9]) -> Mark
+    ensures { λ r. ⌜ markOf r ≡ nine n ⌝ }
+{
+    Mark {
+        kind: n[0],
+        a: n[1],
+        b: n[2],
+        c: n[3],
+        d: n[4],
+        e: n[5],
+        f: n[6],
+        g: n[7],
+        h: n[8],
+    }
+}
+
+fn numbers_of(m: Mark) -> [u16; 9]
+    ensures { λ r. ⌜ r ≡ markOf m ⌝ }
+{
+    [m.kind, m.a, m.b, m.c, m.d, m.e, m.f, m.g, m.h]
+}
+
+// An answer handed out: its number, and in the lent places what it tells.
+fn hand_out(answer: Answer, mark: &mut [u16; 9], count: &mut u32, end: &mut u32) -> u32
+    ensures number { λ k. ⌜ k ≡ answerNumber answer ⌝ }
+    ensures mark { λ k. ⌜ now (mark .exit) ≡ markLeft answer (now (mark .entry)) ⌝ }
+    ensures count { λ k. ⌜ now (count .exit) ≡ countLeft answer (now (count .entry)) ⌝ }
+    ensures end { λ k. ⌜ now (end .exit) ≡ endLeft answer (now (end .entry)) ⌝ }
+{
+    match answer {
+        Answer::Refused(number) => number as u32,
+        Answer::Long(written) => {
+            *count = (written % 4294967296) as u32;
+            12
+        }
+        Answer::Given {
+            count: written,
+            none_remain,
+            mark: next,
+        } => {
+            *mark = numbers_of(next);
+            *count = (written % 4294967296) as u32;
+            *end = none_remain as u32;
+            0
+        }
+    }
+}
+
+// 0 and the cells after the mark, or refusal 1 to 12. On 0 the mark is the one to go on from, `count` how many records
+// were written and `end` 1 where none remain. On 12 `count` is what was written before it; else nothing is written.
+#[no_mangle]
+pub extern "C" fn opalcrumb_portion(
+    file: &[u8],
+    mark: &mut [u16; 9],
+    table: &mut [u16],
+    records: &mut [u16],
+    count: &mut u32,
+    end: &mut u32,
+) -> u32
+    ensures { λ k. ⌜ Passed (now (file .entry)) (now (mark .entry)) (now (table .entry)) (now (records .entry)) (now (count .entry)) (now (end .entry)) k (now (mark .exit)) (now (table .exit)) (now (records .exit)) (now (count .exit)) (now (end .exit)) ⌝ }
+{
+    let answer = listing::portion(file, mark_of(*mark), table, records);
+    hand_out(answer, mark, count, end)
+}
