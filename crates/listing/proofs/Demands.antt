@@ -1,12 +1,11 @@
 -- The listing keeps demands 2 and 3, of any file. Assumes nothing.
-use Prim.Native.Nat.{ℕ, _*_, _/_, _≤_, _<_}
+use Prim.Native.Nat.{ℕ, _/_, _≤_}
 use mathlib.Core.Path.{_≡_, refl, sym, _∙_, ap}
-use mathlib.Core.Bool.{Bool, true, false, cond, true≢false}
-use mathlib.Core.List.{List, [], _∷_, _++_}
+use mathlib.Core.Bool.{Bool, true, false, true≢false}
+use mathlib.Core.List.{List, _++_}
 use native.Mathlib.Omega.{arith}
 use native.Mathlib.Decide.{decLt}
-use borrow.Author.Tests.{eq-eqb, ne-eqb}
-use lib.Dec.{eqb}
+use borrow.Author.Tests.{ne-eqb}
 use lib.ListN.{length, take, drop}
 use Rattle.base.specs.Lists.{all}
 use Rattle.base.proofs.Lay.{lay-front}
@@ -15,26 +14,25 @@ use Rattle.layout.specs.Layout.{vertices, decoded}
 use Rattle.mesh.specs.Check.{refusal}
 use Rattle.cells.specs.Full.{fullList}
 use Rattle.once.proofs.Once.{once}
-use Rattle.neighbours.specs.Table.{tableOf}
-use Rattle.portions.specs.Portions.{portion, given, refused, reply, after, records, readBack}
+use Rattle.portions.specs.Portions.{portion, given, refused, after, records}
 use Rattle.portions.specs.Run as run
 use Rattle.portions.specs.Run.{Outcome, Calls, read}
 use Rattle.portions.proofs.Portions.{some-outcome}
 use Rattle.portions.proofs.Run.{calls, ends}
 use Rattle.portions.proofs.Firm.{outcome-call, refusal-fails, calls-tell}
-use Rattle.rule.specs.Rule.{cellOf, tetRule}
+use Rattle.rule.specs.Rule.{tetRule}
 use Rattle.rule.proofs.Full.{after-above, lawful, telling}
 use Rattle.records.specs.declared.Mark.{Mark}
 use Rattle.records.specs.declared.Answer.{Answer}
 use Rattle.records.specs.declared.Answer.the-variants.{Refused, Long, Given}
 use Rattle.records.specs.Marks.{markOf, letters, says, answerNumber}
-use Rattle.listing.specs.Portion.{barred, portionBy, Kept, Portioned}
+use Rattle.listing.specs.Portion.{barred, portionBy, Promised}
 use Rattle.listing.specs.Demands.{Demand2, Demand3, Called, none, last, more}
-use Rattle.listing.proofs.Kept.{bars-none}
+use Rattle.listing.proofs.Promised.{bars-none}
 
 -- ---- a call that is not refused early
 
-module _ {x : ℕ} {m : Mesh} {n : ℕ} {k table room table′ left : List ℕ} {a : Answer} (p : Kept x m n k table room a table′ left) where
+module _ {x : ℕ} {m : Mesh} {n : ℕ} {k table room table′ left : List ℕ} {a : Answer} (p : Promised x m n k table room a table′ left) where
   pub passed : barred x m n (length table) (length room) ≡ 0 → Outcome tetRule (fullList m) k room (says a) left
   unfolding portionBy
   passed e =
@@ -47,7 +45,7 @@ module _ {x : ℕ} {m : Mesh} {n : ℕ} {k table room table′ left : List ℕ} 
         stored = rw (s ∙ sym (lay-front w room)) o;
       }
 
-pub given-outcome : {x : ℕ} {m : Mesh} {n : ℕ} {k table room table′ left : List ℕ} {c : ℕ} {b : Bool} {k′ : Mark} → Kept x m n k table room (Given c b k′) table′ left → Outcome tetRule (fullList m) k room (given c b (markOf k′)) left
+pub given-outcome : {x : ℕ} {m : Mesh} {n : ℕ} {k table room table′ left : List ℕ} {c : ℕ} {b : Bool} {k′ : Mark} → Promised x m n k table room (Given c b k′) table′ left → Outcome tetRule (fullList m) k room (given c b (markOf k′)) left
 unfolding portionBy
 given-outcome {x} {m} {n} {k} {table} {room} {table′} {left} {c} {b} {k′} p = elim (decLt 0 (barred x m n (length table) (length room))) [
   | yes h ↦

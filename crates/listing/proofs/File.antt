@@ -1,13 +1,13 @@
 -- The file's answer, and its mesh in arrays. Assumes nothing.
 use mathlib.Core.Path.{_≡_, refl, sym, _∙_, ap}
 use mathlib.Core.List.{List}
-use Prim.Native.Nat.{ℕ, _+_, _*_, _-_, _/_, _<_, _≤_}
+use Prim.Native.Nat.{ℕ, _+_, _*_, _-_, _<_, _≤_}
 use native.Mathlib.Omega.{arith}
 use lib.IntN.{ℤ}
 use lib.ListN.{length, take, drop}
 use Rattle.base.proofs.Loop.{part-is}
 use Rattle.space.specs.Arrays.{meshOf}
-use Rattle.layout.specs.Layout.{vertices, tets, Framed, vertexPart, tetPart, coordsIn, labelsIn, partsIn, coordsOf, labelsOf, partsOf, decoded}
+use Rattle.layout.specs.Layout.{vertices, Framed, vertexPart, tetPart, coordsIn, labelsIn, partsIn, coordsOf, labelsOf, partsOf, decoded}
 use Rattle.layout.proofs.Framed.{coords-long, labels-long, parts-long}
 use Rattle.mesh.specs.Check.{checked, number, refusal}
 use Rattle.mesh.specs.declared.Checked.{Checked}
@@ -17,9 +17,9 @@ use Rattle.neighbours.specs.Table.{tableOf}
 use Rattle.neighbours.proofs.Whole.{enough}
 use Rattle.records.specs.declared.Answer.{Answer}
 use Rattle.records.specs.declared.Answer.the-variants.{Refused}
-use Rattle.listing.specs.Portion.{Kept, Portioned}
+use Rattle.listing.specs.Portion.{Promised, Portioned}
 use Rattle.listing.specs.Arrays.{Held}
-use Rattle.listing.proofs.Kept.{bars-file, kept-refused}
+use Rattle.listing.proofs.Promised.{bars-file, promised-refused}
 
 module _ (f : List ℕ) where
   pub parts-of-part : {l : List ℕ} (n : ℕ) {k m : ℕ} → l ≡ partsIn (take (length f - (24 + 12 * n)) (drop (24 + 12 * n) f)) k → k ≡ m → l ≡ partsIn (tetPart n f) m
@@ -30,7 +30,7 @@ module _ (f : List ℕ) where
   unfolding refusal
   refused-file k table room v y e d h l =
       let z : refusal f ≡ y = ap number e ∙ d in
-      kept-refused (refusal f) (decoded f) (vertices f) k table room y (bars-file (refusal f) (decoded f) (vertices f) (length table) (length room) (omega arith) ∙ z) h l refl
+      promised-refused (refusal f) (decoded f) (vertices f) k table room y (bars-file (refusal f) (decoded f) (vertices f) (length table) (length room) (omega arith) ∙ z) h l refl
 
   module _ (n t : ℕ) (q : checked f ≡ Accepted n t) where
     pub accepted-none : refusal f ≡ 0
@@ -60,9 +60,9 @@ module _ (f : List ℕ) where
           parted = rw (b, d) (omega (arith, j, k));
         }
 
-    -- and what is kept of it is kept of the file
-    pub kept-file : {zs : List ℤ} {ls ps k table room table′ room′ : List ℕ} {a : Answer} → zs ≡ coordsIn (vertexPart f) (3 * n) → ls ≡ labelsIn (tetPart n f) (4 * t) → ps ≡ partsIn (tetPart n f) t → Kept 0 (meshOf zs ls ps) n k table room a table′ room′ → Portioned f k table room a table′ room′
-    kept-file {zs} {ls} {ps} p r d h =
+    -- and what is promised of it is promised of the file
+    pub promised-file : {zs : List ℤ} {ls ps k table room table′ room′ : List ℕ} {a : Answer} → zs ≡ coordsIn (vertexPart f) (3 * n) → ls ≡ labelsIn (tetPart n f) (4 * t) → ps ≡ partsIn (tetPart n f) t → Promised 0 (meshOf zs ls ps) n k table room a table′ room′ → Portioned f k table room a table′ room′
+    promised-file {zs} {ls} {ps} p r d h =
         let g = framed in
         rw (accepted-none, sym (g .vertex), sym (g .tet), sym p, sym r, sym d) h
 

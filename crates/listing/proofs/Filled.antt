@@ -1,5 +1,5 @@
 -- The answers of `fill_if` for a mesh in arrays. Assumes nothing.
-use mathlib.Core.Path.{_≡_, refl, sym, _∙_, ap}
+use mathlib.Core.Path.{_≡_, sym, _∙_, ap}
 use mathlib.Core.Bool.{Bool, true, false, cond}
 use mathlib.Core.List.{List, [], _++_}
 use Prim.Native.Nat.{ℕ, _<_, _≤_}
@@ -9,7 +9,6 @@ use borrow.Author.Tests.{lt-ltb, le-ltb}
 use lib.IntN.{ℤ}
 use lib.ListN.{length, drop}
 use Rattle.space.specs.Arrays.{meshOf}
-use Rattle.neighbours.specs.declared.Filled.{Filled}
 use Rattle.neighbours.specs.declared.Filled.the-variants.{Entries, Short}
 use Rattle.neighbours.specs.Table.{tableOf, filledOf, tableAfter}
 use Rattle.neighbours.specs.Reading.{Tabled}

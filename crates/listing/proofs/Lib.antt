@@ -1,4 +1,5 @@
-pub mod Kept
+pub mod Promised
+pub mod Refusals
 pub mod Filled
 pub mod File
 pub mod Demands

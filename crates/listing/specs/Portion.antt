@@ -44,7 +44,7 @@ module _ (x : ℕ) (m : Mesh) (n : ℕ) where
       portionBy k table (length room) .written ++ drop (length (portionBy k table (length room) .written)) room
 
   -- what a call promises, from the mark k on with this table and this room: its answer, and what it leaves in both
-  pub record Kept (k table room : List ℕ) (a : Answer) (table′ room′ : List ℕ) : Type 0 where
+  pub record Promised (k table room : List ℕ) (a : Answer) (table′ room′ : List ℕ) : Type 0 where
     -- the answer by its number and values
     pub answered : says a ≡ portionBy k (length table) (length room) .answer
     pub plain : isPlain a ≡ true
@@ -55,4 +55,4 @@ module _ (x : ℕ) (m : Mesh) (n : ℕ) where
 
 -- of the file with these bytes
 abbrev pub Portioned : (f k table room : List ℕ) → Answer → (table′ room′ : List ℕ) → Type 0
-Portioned f = Kept (refusal f) (decoded f) (vertices f)
+Portioned f = Promised (refusal f) (decoded f) (vertices f)

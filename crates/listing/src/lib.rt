@@ -6,7 +6,7 @@ use records::Mark;
 ghost use mathlib.Core.Path.{_≡_};
 ghost use mathlib.Core.List.{[]};
 ghost use lib.Dec.{leb};
-ghost use Prim.Native.Nat.{_+_, _*_, _/_, _<_, _≤_};
+ghost use Prim.Native.Nat.{_+_, _*_, _<_, _≤_};
 ghost use lib.ListN.{length};
 ghost use Rattle.space.specs.Arrays.{meshOf};
 ghost use Rattle.layout.specs.Layout.{Framed, vertexPart, tetPart, coordsIn, labelsIn, partsIn};
@@ -14,7 +14,7 @@ ghost use Rattle.mesh.specs.Check.{checked};
 ghost use Rattle.mesh.specs.declared.Checked.the-variants.{Accepted};
 ghost use Rattle.neighbours.specs.Reading.{Tabled};
 ghost use Rattle.records.specs.Marks.{markOf, Written};
-ghost use Rattle.listing.specs.Portion.{Kept, Portioned};
+ghost use Rattle.listing.specs.Portion.{Promised, Portioned};
 ghost use Rattle.listing.specs.Arrays.{Held};
 
 // The room holds a record at least.
@@ -69,7 +69,7 @@ fn portion_of(
 ) -> Answer
     requires { ⌜ Held (now coords) (now labels) (now parts) n ⌝ }
     requires { ⌜ (n < length (now offsets)) × (length (now labels) ≤ length (now entries)) ⌝ }
-    ensures { λ r. ⌜ Kept 0 (meshOf (now (coords .entry)) (now (labels .entry)) (now (parts .entry))) n (markOf mark) (now (table .entry)) (now (records .entry)) r (now (table .exit)) (now (records .exit)) ⌝ }
+    ensures { λ r. ⌜ Promised 0 (meshOf (now (coords .entry)) (now (labels .entry)) (now (parts .entry))) n (markOf mark) (now (table .entry)) (now (records .entry)) r (now (table .exit)) (now (records .exit)) ⌝ }
 {
     let roomy = is_roomy(records);
     let filled = neighbours::fill_if(labels, n, roomy, table);

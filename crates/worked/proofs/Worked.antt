@@ -2,13 +2,13 @@
 -- Assumes nothing.
 use Prim.Native.Nat.{ℕ}
 use mathlib.Core.Path.{_≡_, refl, sym, _∙_, ap}
-use mathlib.Core.Bool.{Bool, true, false, cond}
+use mathlib.Core.Bool.{cond}
 use mathlib.Core.List.{List, [], _∷_, _++_}
 use lib.Dec.{eqb, ltb}
 use lib.ListN.{length, getD, drop}
 use Rattle.base.specs.Lists.{keep, spread}
 use Rattle.space.specs.Box.{box}
-use Rattle.space.specs.Mesh.{Mesh, together}
+use Rattle.space.specs.Mesh.{together}
 use Rattle.layout.specs.Bytes.{signed32, i32At}
 use Rattle.layout.specs.Layout.{vertices, decoded, lengthRight, countsRight, layoutRight, coordsIn, labelsIn, partsIn, coordinatesRight}
 use Rattle.facets.specs.Facets.{boxAt, opposite, outside, twice, flat, full, crowded, astray, clashes, clashing, folded, refused5, refused6, refused7, refused8, refused9, faultOf}

@@ -4,7 +4,7 @@ use Prim.Native.Nat.{ℕ}
 use mathlib.Core.Path.{_≡_}
 use mathlib.Core.Bool.{true, false}
 use mathlib.Core.List.{List, [], _∷_, _++_, map}
-use lib.ListN.{length, take, drop, replicate}
+use lib.ListN.{length, take, replicate}
 use Rattle.layout.specs.Layout.{vertices, decoded}
 use Rattle.mesh.specs.Check.{refusal}
 use Rattle.mesh.specs.Rows.{u16, joins, pyramid, cube}

@@ -1,8 +1,8 @@
 -- `listing::portion` meets its contract: the answer by that of the check. Assumes nothing.
-use mathlib.Core.Path.{_≡_, refl, sym, _∙_}
+use mathlib.Core.Path.{refl, sym, _∙_}
 use native.Mathlib.Omega.{arith}
 use Rattle.mesh.specs.Check.{number}
-use Rattle.mesh.specs.declared.Checked.the-variants.{Accepted, Length, Counts, Layout, Coordinate, Label, Twice, Flat, Crowded, Folded}
+use Rattle.mesh.specs.declared.Checked.the-variants.{Length, Counts, Layout, Coordinate, Label, Twice, Flat, Crowded, Folded}
 use Rattle.listing.proofs.File.{framed, refused-file}
 use borrow.Author.Needs.{needs}
 use Rattle.listing.proofs.portion.Statement.{statement}

@@ -5,7 +5,7 @@ use native.Mathlib.Omega.{arith}
 use lib.ListN.{length}
 use Rattle.layout.specs.Layout.{tetPart}
 use Rattle.layout.proofs.Framed.{labels-long}
-use Rattle.listing.proofs.File.{held, kept-file}
+use Rattle.listing.proofs.File.{held, promised-file}
 use borrow.Author.Needs.{needs}
 use Rattle.listing.proofs.portion_in.Statement.{statement}
 use Rattle.listing.proofs.portion_in.Tie as tie
@@ -47,7 +47,7 @@ returns : tie.Need-returns
 returns c =
     let s = c .before .before .before .before .before .before .before .before .before .before .before .before .before .before .before .before .before .before .before .before .before .before .before .before .before .before .before .before .before .before .before .before in
     let e = c .before .before .before .before .before .before .before .before .before .before .before .before .before .before .before .before .before .before .before .before .before .decode .ensures in
-    kept-file (s .args .file .now) (s .args .n) (s .args .t) (s .pre .0 .1) (e .0) (e .1 .0) (e .1 .1) (c .before .before .before .before .before .before .before .before .portion-of .ensures)
+    promised-file (s .args .file .now) (s .args .n) (s .args .t) (s .pre .0 .1) (e .0) (e .1 .0) (e .1 .1) (c .before .before .before .before .before .before .before .before .portion-of .ensures)
 
 pub portion-in-spec : {M : Type 1} → statement M
 portion-in-spec =
