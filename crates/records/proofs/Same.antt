@@ -42,7 +42,7 @@ mark-same : (m k : Mark) → markOf m ≡ markOf k → m ≡ k
 mark-same m k e = ap markBy e
 
 -- an answer by what it says and how many records it tells
-answer-same : (a b : Answer) → isPlain a ≡ true → isPlain b ≡ true → says a ≡ says b → wrote a ≡ wrote b → a ≡ b
+pub answer-same : (a b : Answer) → isPlain a ≡ true → isPlain b ≡ true → says a ≡ says b → wrote a ≡ wrote b → a ≡ b
 answer-same (Refused j) (Refused k) p q e n = ap (λ s. Refused (refusal s)) e
 answer-same (Refused j) (Long k) p q e n = absurd (true≢false (sym p ∙ ap (λ s. ltb (refusal s) 12) e))
 answer-same (Refused j) (Given c o k) p q e n = absurd (true≢false (sym (ap isGiven e)))

@@ -1,0 +1,383 @@
+// Lists the cells of the mesh on standard input, or a portion of them from a mark on.
+//
+// With no argument: a line `mesh` with the counts, a line for each cell, and `end` with their number. With ten, which are
+// a mark (a kind and eight numbers) and how many cells there is room for: the cells after the mark, at most that many, and
+// then `end` with how many those were, where none remain, or `mark` with the mark to go on from. A refusal is `refused`
+// with its number.
+//
+// What is listed is the promise of `listing::portion`, and what a line says that of `lines`; here stand only the reading
+// and the writing. A write that fails ends the program at once, so that no last line follows a cell that was lost.
+use layout::Headed;
+use libc::STDERR_FILENO;
+use libc::STDIN_FILENO;
+use libc::STDOUT_FILENO;
+use records::Answer;
+use records::Mark;
+ghost use Prim.Native.Nat.{_/_, _≤_};
+ghost use mathlib.Core.Path.{_≡_};
+ghost use lib.ListN.{length};
+
+// ---- writing; each line is put into a lent text of 65,536 bytes first
+
+// Writes the first `at` bytes of a text, and answers whether all were taken.
+fn show(out: &[u8], at: usize) -> bool
+    requires { ⌜ at ≤ length (now out) ⌝ }
+{
+    io::write_all(STDOUT_FILENO, &out[..at])
+}
+
+// Writes a line of a word and a number.
+fn show_number(out: &mut [u8], word: &[u8], x: u64) -> bool
+    requires { ⌜ (length (now out) ≡ 65536) × (length (now word) ≤ 10) ⌝ }
+{
+    let a = lines::put_text(out, 0, word);
+    let b = lines::put_number(out, a, x);
+    let c = lines::put_text(out, b, b"\n");
+    show(out, c)
+}
+
+// Writes a line of a word and some numbers.
+fn show_numbers(out: &mut [u8], word: &[u8], numbers: &[u16]) -> bool
+    requires { ⌜ (length (now out) ≡ 65536) × (length (now word) ≤ 10) × (length (now numbers) ≤ 9) ⌝ }
+{
+    let a = lines::put_text(out, 0, word);
+    let b = lines::put_numbers(out, a, numbers);
+    let c = lines::put_text(out, b, b"\n");
+    show(out, c)
+}
+
+// Writes the first line: how many vertices and tetrahedra.
+fn show_mesh(out: &mut [u8], file: &[u8]) -> bool
+    requires { ⌜ length (now out) ≡ 65536 ⌝ }
+{
+    match layout::header(file) {
+        Headed::Sound { vertices, tets } => {
+            let counts = [(vertices % 65536) as u16, (tets % 65536) as u16];
+            show_numbers(out, b"mesh", &counts)
+        }
+        Headed::Length => false,
+        Headed::Counts => false,
+        Headed::Layout => false,
+    }
+}
+
+fn show_mark(out: &mut [u8], m: Mark) -> bool
+    requires { ⌜ length (now out) ≡ 65536 ⌝ }
+{
+    let numbers = [m.kind, m.a, m.b, m.c, m.d, m.e, m.f, m.g, m.h];
+    show_numbers(out, b"mark", &numbers)
+}
+
+// Writes the text where it has no room for a line more, and answers where the next goes; past the text where that failed.
+fn flushed(out: &[u8], at: usize) -> usize
+    requires { ⌜ (length (now out) ≡ 65536) × (at ≤ 65536) ⌝ }
+{
+    if at <= 64000 {
+        return at;
+    }
+    if show(out, at) { 0 } else { 65537 }
+}
+
+// Writes the lines of the first `count` records.
+fn show_cells(out: &mut [u8], records: &[u16], count: usize) -> bool
+    requires { ⌜ (length (now out) ≡ 65536) × (count ≤ length (now records) / 35) ⌝ }
+{
+    let mut at = 0;
+    let mut i = 0;
+    while i < count {
+        let next = flushed(out, at);
+        if next > 64000 {
+            return false;
+        }
+        let from = 35 * i;
+        let end = from + 35;
+        at = lines::put_cell(out, next, &records[from..end]);
+        i += 1;
+    }
+    show(out, at)
+}
+
+// ---- the listing
+
+// What is left to do after a call of the library: another call from a mark on, with this many cells done, or nothing.
+enum Step {
+    More(Mark, u64),
+    Done,
+}
+
+// Writes what a call gave: the first line before the first cell, the cells, and at the end the last line.
+fn told(
+    out: &mut [u8],
+    file: &[u8],
+    records: &[u16],
+    before: u64,
+    room: u64,
+    answer: Answer,
+) -> Step
+    requires { ⌜ length (now out) ≡ 65536 ⌝ }
+{
+    match answer {
+        Answer::Refused(number) => {
+            show_number(out, b"refused", number as u64);
+            Step::Done
+        }
+        Answer::Long(count) => {
+            if given(out, file, records, before, count) {
+                show_number(out, b"refused", 12);
+            }
+            Step::Done
+        }
+        Answer::Given {
+            count,
+            none_remain,
+            mark,
+        } => {
+            if !given(out, file, records, before, count) {
+                return Step::Done;
+            }
+            closed(out, after(before, count), room, none_remain, mark)
+        }
+    }
+}
+
+// The first line, where this is the first call, and the cells.
+fn given(out: &mut [u8], file: &[u8], records: &[u16], before: u64, count: usize) -> bool
+    requires { ⌜ length (now out) ≡ 65536 ⌝ }
+{
+    if before == 0 {
+        if !show_mesh(out, file) {
+            return false;
+        }
+        return show_given(out, records, count);
+    }
+    show_given(out, records, count)
+}
+
+// The cells, where the room holds as many as the call says.
+fn show_given(out: &mut [u8], records: &[u16], count: usize) -> bool
+    requires { ⌜ length (now out) ≡ 65536 ⌝ }
+{
+    if count <= records.len() / 35 {
+        return show_cells(out, records, count);
+    }
+    false
+}
+
+// How many cells there are with `count` more; it stays where a number has no more room.
+fn after(before: u64, count: usize) -> u64 {
+    let more = count as u64;
+    if more <= u64::MAX - before {
+        return before + more;
+    }
+    before
+}
+
+fn closed(out: &mut [u8], done: u64, room: u64, none_remain: bool, mark: Mark) -> Step
+    requires { ⌜ length (now out) ≡ 65536 ⌝ }
+{
+    if none_remain {
+        show_number(out, b"end", done);
+        return Step::Done;
+    }
+    if room <= done {
+        show_mark(out, mark);
+        return Step::Done;
+    }
+    Step::More(mark, done)
+}
+
+// How many of the cells that are left go into one call.
+fn batch(room: u64, done: u64) -> usize
+    ensures { λ r. ⌜ r ≤ 1024 ⌝ }
+{
+    if room <= done {
+        return 0;
+    }
+    let left = room - done;
+    if left < 1024 { left as usize } else { 1024 }
+}
+
+// One call of the library, and what it gave written.
+fn call(
+    out: &mut [u8],
+    file: &[u8],
+    table: &mut [u16],
+    records: &mut [u16],
+    mark: Mark,
+    done: u64,
+    room: u64,
+) -> Step
+    requires { ⌜ (length (now out) ≡ 65536) × (length (now records) ≡ 35840) ⌝ }
+{
+    let end = 35 * batch(room, done);
+    let part = &mut records[..end];
+    let answer = listing::portion(file, mark, table, part);
+    told(out, file, part, done, room, answer)
+}
+
+// Calls until the end or the room is reached. A loop has to end, so it counts down from a number that no run uses up.
+fn list(out: &mut [u8], file: &[u8], table: &mut [u16], records: &mut [u16], from: Mark, room: u64)
+    requires { ⌜ (length (now out) ≡ 65536) × (length (now records) ≡ 35840) ⌝ }
+{
+    let mut mark = from;
+    let mut done = 0;
+    let mut turns = u64::MAX;
+    while turns > 0 {
+        let step = call(out, file, table, records, mark, done, room);
+        let Step::More(next, count) = step else {
+            return;
+        };
+        mark = next;
+        done = count;
+        turns -= 1;
+    }
+}
+
+// ---- rooms, each with its length alone told
+
+fn file_room() -> [u8; 26649]
+    ensures { λ r. ⌜ 26649 ≡ length r ⌝ }
+{
+    [0; 26649]
+}
+
+fn table_room() -> [u16; 25089]
+    ensures { λ r. ⌜ 25089 ≡ length r ⌝ }
+{
+    [0; 25089]
+}
+
+fn record_room() -> [u16; 35840]
+    ensures { λ r. ⌜ 35840 ≡ length r ⌝ }
+{
+    [0; 35840]
+}
+
+fn list_from(file: &[u8], from: Mark, room: u64) {
+    let mut text = io::large_buffer();
+    let mut table = table_room();
+    let mut records = record_room();
+    list(&mut text, file, &mut table, &mut records, from, room);
+}
+
+// ---- arguments
+
+// What a word says: a number, or nothing that is one.
+enum Word {
+    Number(u64),
+    Bad,
+}
+
+// The number that a text of digits says, where it is at most `most`.
+fn number_in(text: &[u8], most: u64) -> Word
+    requires { ⌜ most ≤ 4294967295 ⌝ }
+{
+    if text.len() == 0 {
+        return Word::Bad;
+    }
+    let mut x: u64 = 0;
+    let mut i = 0;
+    while i < text.len() {
+        let d = digit(text[i]);
+        if d > 9 {
+            return Word::Bad;
+        }
+        x = 10 * x + d;
+        if x > most {
+            return Word::Bad;
+        }
+        i += 1;
+    }
+    Word::Number(x)
+}
+
+// The value of a digit, and more than 9 where it is none.
+fn digit(b: u8) -> u64
+    ensures { λ r. ⌜ r ≤ 255 ⌝ }
+{
+    if b < 48 {
+        return 255;
+    }
+    (b - 48) as u64
+}
+
+// The number that argument `i` says, or nothing where it says none up to `most`.
+fn number_at(i: usize, most: u64) -> Word
+    requires { ⌜ most ≤ 4294967295 ⌝ }
+{
+    let mut buf = io::buffer();
+    let n = os::arg(i, &mut buf);
+    number_in(&buf[..n], most)
+}
+
+// A corner of the mark: argument `i`, or 65,536 where it is no number of 16 bits.
+fn corner(i: usize) -> u64
+    ensures { λ r. ⌜ r ≤ 65536 ⌝ }
+{
+    let w = number_at(i, 65535);
+    let Word::Number(x) = w else {
+        return 65536;
+    };
+    if x < 65536 { x } else { 65536 }
+}
+
+fn complain() {
+    io::write_all(
+        STDERR_FILENO,
+        b"combine: no words, or ten: a kind, eight numbers and a room\n",
+    );
+}
+
+// The portion that the arguments ask for.
+fn list_asked(file: &[u8]) {
+    let w = number_at(10, 4294967295);
+    let Word::Number(room) = w else {
+        complain();
+        return;
+    };
+    let mut numbers = [0u16; 9];
+    let mut i = 0;
+    while i < 9 {
+        let x = corner(i + 1);
+        if x > 65535 {
+            complain();
+            return;
+        }
+        numbers[i] = x as u16;
+        i += 1;
+    }
+    list_from(file, mark_of(numbers), room);
+}
+
+fn mark_of(n: [u16; 9]) -> Mark {
+    Mark {
+        kind: n[0],
+        a: n[1],
+        b: n[2],
+        c: n[3],
+        d: n[4],
+        e: n[5],
+        f: n[6],
+        g: n[7],
+        h: n[8],
+    }
+}
+
+fn run(file: &[u8]) {
+    let words = os::arg_count();
+    if words == 1 {
+        list_from(file, mark_of([65535, 0, 0, 0, 0, 0, 0, 0, 0]), u64::MAX);
+        return;
+    }
+    if words == 11 {
+        list_asked(file);
+        return;
+    }
+    complain();
+}
+
+fn main() {
+    let mut bytes = file_room();
+    let n = io::read_full(STDIN_FILENO, &mut bytes);
+    run(&bytes[..n]);
+}

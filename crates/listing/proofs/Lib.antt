@@ -1,0 +1,4 @@
+pub mod Kept
+pub mod Filled
+pub mod File
+pub mod Demands

@@ -1,0 +1,3 @@
+pub mod Portion
+pub mod Arrays
+pub mod Demands
