@@ -1,6 +1,6 @@
 -- The next of a cell's tetrahedra, looked for around its corners. Assumes nothing.
 use mathlib.Core.Path.{_≡_, refl, sym, _∙_, ap}
-use mathlib.Core.Bool.{Bool, true, false, _&&_, _||_, not, false≢true}
+use mathlib.Core.Bool.{Bool, true, false, cond, _&&_, _||_, not, false≢true}
 use mathlib.Core.Logic.{_⊎_, inl, inr, ⊎-elim}
 use mathlib.Core.List.{List, [], _∷_, List·Memᴰ, List·Memᴰ·head, List·Memᴰ·tail}
 use Prim.Native.Nat.{ℕ, zero, suc, _+_, _*_, _-_, _/_, _≤_, _<_}
@@ -19,8 +19,7 @@ use Rattle.around.specs.Index.{Labelled}
 use Rattle.cells.specs.Cells.{belongs}
 use Rattle.cells.specs.Rows.{quadsOf}
 use Rattle.filling.specs.declared.Tets.{Tets}
-use Rattle.filling.specs.declared.Step.{Step}
-use Rattle.filling.specs.Next.{Lesser, Least, Next, Visited, NextBut, NextOf}
+use Rattle.filling.specs.Next.{Hit, Rising, Least, Next, Visited, NextOf}
 use Rattle.filling.proofs.Found.{FoundUp, keep-skip}
 
 -- where an element stands
@@ -39,34 +38,61 @@ place-around ls v j h t = place-of _ (keep-has (λ i. isIn v (row4 ls i)) (upTo 
 
 -- ---- over a row
 
+-- what is kept of rising numbers rises
+keep-above : (b : ℕ → Bool) (k i j : ℕ) → j < length (keep b (from i k)) → i ≤ getD (keep b (from i k)) j 0
+unfolding keep
+keep-above b zero i j h = absurd (omega arith)
+keep-above b (suc k) i j h = go (b i) j h (keep-above b k (suc i))
+  where
+    go : (u : Bool) (j : ℕ) → j < length (cond u (i ∷ keep b (from (suc i) k)) (keep b (from (suc i) k))) → ((j : ℕ) → j < length (keep b (from (suc i) k)) → suc i ≤ getD (keep b (from (suc i) k)) j 0) → i ≤ getD (cond u (i ∷ keep b (from (suc i) k)) (keep b (from (suc i) k))) j 0
+    go true zero h r = omega arith
+    go true (suc j) h r = omega (arith, r j (omega arith))
+    go false j h r = omega (arith, r j h)
+
+keep-rises : (b : ℕ → Bool) (k i p q : ℕ) → p ≤ q → q < length (keep b (from i k)) → getD (keep b (from i k)) p 0 ≤ getD (keep b (from i k)) q 0
+unfolding keep
+keep-rises b zero i p q l h = absurd (omega arith)
+keep-rises b (suc k) i p q l h = go (b i) p q l h (keep-above b k (suc i)) (keep-rises b k (suc i))
+  where
+    go : (u : Bool) (p q : ℕ) → p ≤ q → q < length (cond u (i ∷ keep b (from (suc i) k)) (keep b (from (suc i) k))) → ((j : ℕ) → j < length (keep b (from (suc i) k)) → suc i ≤ getD (keep b (from (suc i) k)) j 0) → ((p q : ℕ) → p ≤ q → q < length (keep b (from (suc i) k)) → getD (keep b (from (suc i) k)) p 0 ≤ getD (keep b (from (suc i) k)) q 0) → getD (cond u (i ∷ keep b (from (suc i) k)) (keep b (from (suc i) k))) p 0 ≤ getD (cond u (i ∷ keep b (from (suc i) k)) (keep b (from (suc i) k))) q 0
+    go true zero zero l h a r = omega arith
+    go true zero (suc q) l h a r = omega (arith, a q (omega arith))
+    go true (suc p) zero l h a r = absurd (omega arith)
+    go true (suc p) (suc q) l h a r = r p q (omega arith) (omega arith)
+    go false p q l h a r = r p q l h
+
+pub around-rises : (ls : List ℕ) (v : ℕ) → Rising (around ls v)
+unfolding around
+around-rises ls v = record { up = keep-rises (λ i. isIn v (row4 ls i)) (length ls / 4) 0 }
+
 pub least-start : {b : ℕ → Bool} {lo hi : ℕ} {row : List ℕ} → Least b lo hi row 0 hi
 least-start = record { le = omega arith; is = λ h. absurd (omega arith); none = λ i h. absurd (omega arith) }
 
-module _ {b : ℕ → Bool} {lo hi k r s : ℕ} {row : List ℕ} (a : Least b lo hi row k r) (l : Lesser (b (getD row k 0)) lo (getD row k 0) r s) where
-  is-next : Dec (s < r) → s < hi → (lo ≤ s) × (b s ≡ true)
-  is-next (yes h) g = let u = l .is h in (omega (arith, u .0, u .1 .0), ap b (u .0) ∙ u .1 .1)
-  is-next (no h) g = let e : s ≡ r = omega (arith, l .le) in rw e (a .is (omega (arith, l .le)))
+-- none so far
+module _ {b : ℕ → Bool} {lo hi k : ℕ} {row : List ℕ} (a : Least b lo hi row k hi) where
+  none-next : {r : Bool} → Hit (b (getD row k 0)) lo (getD row k 0) r → r ≡ false → (i : ℕ) → Dec (i < k) → i < k + 1 → lo ≤ getD row i 0 → getD row i 0 < hi → b (getD row i 0) ≡ false
+  none-next l f i (yes h) g p q = a .none i h p q
+  none-next l f i (no h) g p q = let e : i ≡ k = omega arith in rw e (l .none f (rw e at p))
 
-  none-next : (i : ℕ) → Dec (i < k) → i < k + 1 → lo ≤ getD row i 0 → getD row i 0 < s → b (getD row i 0) ≡ false
-  none-next i (yes h) g p q = a .none i h p (omega (arith, l .le))
-  none-next i (no h) g p q = let e : i ≡ k = omega arith in rw e (l .none (rw e at p) (rw e at q))
+  pub least-next : {r : Bool} → Hit (b (getD row k 0)) lo (getD row k 0) r → r ≡ false → Least b lo hi row (k + 1) hi
+  least-next l f = record { le = omega arith; is = λ h. absurd (omega arith); none = λ i. none-next l f i (decLt i k) }
 
-  pub least-next : Least b lo hi row (k + 1) s
-  least-next = record {
-    le = omega (arith, a .le, l .le);
-    is = is-next (decLt s r);
-    none = λ i. none-next i (decLt i k);
-  }
+  module _ (u : Rising row) (m : k < length row) where
+    -- from place k on, no number is below that at k
+    none-after : (r : ℕ) → r ≤ hi → r ≤ getD row k 0 → (i : ℕ) → Dec (i < k) → i < length row → lo ≤ getD row i 0 → getD row i 0 < r → b (getD row i 0) ≡ false
+    none-after r t e i (yes h) g p q = a .none i h p (omega arith)
+    none-after r t e i (no h) g p q = absurd (omega (arith, u .up k i (omega arith) g))
+
+    pub least-past : hi ≤ getD row k 0 → Least b lo hi row (length row) hi
+    least-past e = record { le = omega arith; is = λ h. absurd (omega arith); none = λ i. none-after hi (omega arith) e i (decLt i k) }
+
+    pub least-hit : {r : Bool} → getD row k 0 < hi → Hit (b (getD row k 0)) lo (getD row k 0) r → r ≡ true → Least b lo hi row (length row) (getD row k 0)
+    least-hit h l t = record { le = omega arith; is = λ g. l .is t; none = λ i. none-after (getD row k 0) (omega arith) (omega arith) i (decLt i k) }
 
 -- ---- over the corners
 
-pub next-start : {b : ℕ → Bool} {ls c : List ℕ} {lo hi : ℕ} → NextBut b ls c lo hi 0 0 hi
-next-start = record {
-  few = omega arith;
-  left = [];
-  long = refl;
-  next = record { le = omega arith; is = λ h. absurd (omega arith); none = λ i j h. absurd (omega arith) };
-}
+pub next-start : {b : ℕ → Bool} {ls c out : List ℕ} {lo hi : ℕ} → Next b ls c lo hi 0 out hi
+next-start = record { le = omega arith; is = λ h. absurd (omega arith); none = λ i j h. absurd (omega arith) }
 
 or-none : (a b : Bool) → (a || b) ≡ false → b ≡ false
 or-none true b e = absurd (false≢true (sym e))
@@ -74,15 +100,12 @@ or-none false b e = e
 
 module _ {b : ℕ → Bool} {ls c out : List ℕ} {lo hi k r : ℕ} (a : Next b ls c lo hi k out r) where
   -- a vertex left out
-  none-out : (i j : ℕ) → Dec (i < k) → i < k + 1 → isIn (getD c i 0) (getD c k 0 ∷ out) ≡ false → isIn (getD c i 0) (row4 ls j) ≡ true → lo ≤ j → j < r → b j ≡ false
-  none-out i j (yes h) g o t p q = a .none i j h (or-none (eqb (getD c i 0) (getD c k 0)) (isIn (getD c i 0) out) o) t p q
-  none-out i j (no h) g o t p q =
-      let e : getD c i 0 ≡ getD c k 0 = ap (λ n. getD c n 0) (omega arith) in
-      let f : isIn (getD c i 0) (getD c k 0 ∷ out) ≡ true = rw (eq-eqb (getD c i 0) (getD c k 0) e) in
-      absurd (false≢true (sym o ∙ f))
+  none-out : isIn (getD c k 0) out ≡ true → (i j : ℕ) → Dec (i < k) → i < k + 1 → isIn (getD c i 0) out ≡ false → isIn (getD c i 0) (row4 ls j) ≡ true → lo ≤ j → j < r → b j ≡ false
+  none-out f i j (yes h) g o t p q = a .none i j h o t p q
+  none-out f i j (no h) g o t p q = let e : i ≡ k = omega arith in absurd (false≢true (sym (rw e at o) ∙ f))
 
-  next-out : Next b ls c lo hi (k + 1) (getD c k 0 ∷ out) r
-  next-out = record { le = a .le; is = a .is; none = λ i j. none-out i j (decLt i k) }
+  next-out : isIn (getD c k 0) out ≡ true → Next b ls c lo hi (k + 1) out r
+  next-out f = record { le = a .le; is = a .is; none = λ i j. none-out f i j (decLt i k) }
 
   module _ {s : ℕ} (top : hi ≤ length ls / 4) (l : Least b lo r (around ls (getD c k 0)) (length (around ls (getD c k 0))) s) where
     is-corner : Dec (s < r) → s < hi → (lo ≤ s) × (b s ≡ true)
@@ -103,12 +126,8 @@ module _ {b : ℕ → Bool} {ls c out : List ℕ} {lo hi k r : ℕ} (a : Next b 
       none = λ i j. none-corner i j (decLt i k);
     }
 
-pub next-visit : {b : ℕ → Bool} {ls c : List ℕ} {lo hi k out r : ℕ} {s : Step} → hi ≤ length ls / 4 → NextBut b ls c lo hi k out r → Visited b lo r out (around ls (getD c k 0)) s → NextBut b ls c lo hi (k + 1) (s .out) (s .least)
-next-visit {c = c} {k = k} top a v =
-    ⊎-elim
-    (λ h. record { few = omega (arith, h .0, h .1 .0); left = getD c k 0 ∷ a .left; long = omega (arith, a .long, h .1 .0); next = rw (h .1 .1) (next-out (a .next)) })
-    (λ h. record { few = omega (arith, a .few, h .0); left = a .left; long = a .long ∙ sym (h .0); next = next-corner (a .next) top (h .1) })
-    (v .is)
+pub next-visit : {b : ℕ → Bool} {ls c out : List ℕ} {lo hi k r s : ℕ} → hi ≤ length ls / 4 → Next b ls c lo hi k out r → Visited b lo r out (getD c k 0) (around ls (getD c k 0)) s → Next b ls c lo hi (k + 1) out s
+next-visit top a v = ⊎-elim (λ h. rw (h .1) (next-out a (h .0))) (λ h. next-corner a top h) (v .is)
 
 three : (p q r : ℕ) → p < 3 → q < 3 → r < 3 → (p ≡ q → ⊥) → (p ≡ r → ⊥) → (q ≡ r → ⊥) → p + q + r ≡ 3
 three p q r a b c d e f = omega arith
@@ -175,26 +194,26 @@ module _ (ls qs c : List ℕ) (n : ℕ) (w : Labelled ls n) where
   abbrev test : ℕ → Bool
   test j = belongs (meshOf [] ls []) (quadsOf qs) c (tetAt ls [] j)
 
-  pub next-done : {lo k out r : ℕ} → NextBut test ls c lo (length ls / 4) k out r → length c ≤ k → NextOf test lo (length ls / 4) r
+  pub next-done : {out : List ℕ} {lo k r : ℕ} → length out ≤ 3 → Next test ls c lo (length ls / 4) k out r → length c ≤ k → NextOf test lo (length ls / 4) r
   unfolding belongs
-  next-done {lo} {k} {out} {r} a h =
+  next-done {out} {lo} {k} {r} few a h =
       record {
-        le = a .next .le;
+        le = a .le;
         from = up (decLt r (length ls / 4));
-        is = λ g. a .next .is g .1;
+        is = λ g. a .is g .1;
         none = λ j p q. go j p q (test j) refl;
       }
     where
       up : Dec (r < length ls / 4) → lo ≤ length ls / 4 → lo ≤ r
-      up (yes g) l = a .next .is g .0
-      up (no g) l = omega (arith, a .next .le)
+      up (yes g) l = a .is g .0
+      up (no g) l = omega (arith, a .le)
 
       -- a vertex of it that is not left out settles it
-      seen : (j x : ℕ) → lo ≤ j → j < r → isIn x (row4 ls j) ≡ true → isIn x c ≡ true → (u : Bool) → isIn x (a .left) ≡ u → (test j ≡ false) ⊎ (isIn x (a .left) ≡ true)
+      seen : (j x : ℕ) → lo ≤ j → j < r → isIn x (row4 ls j) ≡ true → isIn x c ≡ true → (u : Bool) → isIn x out ≡ u → (test j ≡ false) ⊎ (isIn x out ≡ true)
       seen j x p q m i true e = inr e
       seen j x p q m i false e =
           let y = place-in x c i in
-          inl (a .next .none (y .0) j (omega (arith, y .1)) (rw (y .2) e) (rw (y .2) m) p q)
+          inl (a .none (y .0) j (omega (arith, y .1)) (rw (y .2) e) (rw (y .2) m) p q)
 
       go : (j : ℕ) → lo ≤ j → j < r → (u : Bool) → test j ≡ u → test j ≡ false
       go j p q false e = e
@@ -215,11 +234,11 @@ module _ (ls qs c : List ℕ) (n : ℕ) (w : Labelled ls n) where
           ⊎-elim (λ f. f) (λ o1.
           ⊎-elim (λ f. f) (λ o2.
           ⊎-elim (λ f. f) (λ o3.
-          absurd (four (a .left) v0 v1 v2 v3 (omega (arith, a .few, a .long)) (w .apart j (omega (arith, a .next .le))) o0 o1 o2 o3))
-          (seen j v3 p q (m0 .1 .1 .1) i3 (isIn v3 (a .left)) refl))
-          (seen j v2 p q (m0 .1 .1 .0) i2 (isIn v2 (a .left)) refl))
-          (seen j v1 p q (m0 .1 .0) i1 (isIn v1 (a .left)) refl))
-          (seen j v0 p q (m0 .0) i0 (isIn v0 (a .left)) refl)
+          absurd (four out v0 v1 v2 v3 few (w .apart j (omega (arith, a .le))) o0 o1 o2 o3))
+          (seen j v3 p q (m0 .1 .1 .1) i3 (isIn v3 out) refl))
+          (seen j v2 p q (m0 .1 .1 .0) i2 (isIn v2 out) refl))
+          (seen j v1 p q (m0 .1 .0) i1 (isIn v1 out) refl))
+          (seen j v0 p q (m0 .0) i0 (isIn v0 out) refl)
 
 -- ---- one after the other
 

@@ -1,20 +1,23 @@
 -- The next number that passes a test, looked for among the numbers of a row, and around the corners of a tuple.
 -- Assumes nothing.
-use Prim.Native.Nat.{ℕ, _+_, _≤_, _<_}
+use Prim.Native.Nat.{ℕ, _≤_, _<_}
 use mathlib.Core.Path.{_≡_}
 use mathlib.Core.Bool.{Bool, true, false}
-use mathlib.Core.List.{List}
+use mathlib.Core.List.{List, [], _∷_}
 use mathlib.Core.Logic.{_⊎_}
 use lib.ListN.{length, getD}
 use Rattle.base.specs.Lists.{isIn}
 use Rattle.space.specs.Arrays.{row4}
-use Rattle.filling.specs.declared.Step.{Step}
+use Rattle.filling.specs.declared.Crowd.{Crowd}
 
--- j, where it passes the test b and lies between lo and least; else least
-pub record Lesser (b : Bool) (lo j least r : ℕ) : Type 0 where
-  pub le : r ≤ least
-  pub is : r < least → (r ≡ j) × ((lo ≤ j) × (b ≡ true))
-  pub none : lo ≤ j → j < r → b ≡ false
+-- j passes the test b and is not below lo
+pub record Hit (b : Bool) (lo j : ℕ) (r : Bool) : Type 0 where
+  pub is : r ≡ true → (lo ≤ j) × (b ≡ true)
+  pub none : r ≡ false → lo ≤ j → b ≡ false
+
+-- no number of the row is below one before it
+pub record Rising (row : List ℕ) : Type 0 where
+  pub up : (i k : ℕ) → i ≤ k → k < length row → getD row i 0 ≤ getD row k 0
 
 -- the least from lo on that passes b, among the first k numbers of a row; hi where none below hi does
 pub record Least (b : ℕ → Bool) (lo hi : ℕ) (row : List ℕ) (k r : ℕ) : Type 0 where
@@ -28,16 +31,13 @@ pub record Next (b : ℕ → Bool) (ls c : List ℕ) (lo hi k : ℕ) (out : List
   pub is : r < hi → (lo ≤ r) × (b r ≡ true)
   pub none : (i j : ℕ) → i < k → isIn (getD c i 0) out ≡ false → isIn (getD c i 0) (row4 ls j) ≡ true → lo ≤ j → j < r → b j ≡ false
 
--- one vertex more, with this row: it is left out, as one of at most three, or the least is taken with those of its row
-pub record Visited (b : ℕ → Bool) (lo hi out : ℕ) (row : List ℕ) (s : Step) : Type 0 where
-  pub is : ((out < 3) × ((s .out ≡ out + 1) × (s .least ≡ hi))) ⊎ ((s .out ≡ out) × Least b lo hi row (length row) (s .least))
+-- the three vertices left out
+abbrev pub leftOut : Crowd → List ℕ
+leftOut w = w .a ∷ w .b ∷ w .d ∷ []
 
--- where the vertices left out are at most three
-pub record NextBut (b : ℕ → Bool) (ls c : List ℕ) (lo hi k out r : ℕ) : Type 0 where
-  pub few : out ≤ 3
-  pub left : List ℕ
-  pub long : length left ≡ out
-  pub next : Next b ls c lo hi k left r
+-- one vertex more, with this row: it is left out, or the least is taken with those of its row
+pub record Visited (b : ℕ → Bool) (lo hi : ℕ) (out : List ℕ) (v : ℕ) (row : List ℕ) (r : ℕ) : Type 0 where
+  pub is : ((isIn v out ≡ true) × (r ≡ hi)) ⊎ Least b lo hi row (length row) r
 
 -- the same among all
 pub record NextOf (b : ℕ → Bool) (lo hi r : ℕ) : Type 0 where

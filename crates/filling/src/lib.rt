@@ -1,6 +1,5 @@
 // Which tetrahedra a cell has, and whether they fill it and are of one part: conditions 5 and 6.
 ghost use mathlib.Core.Path.{_≡_};
-ghost use mathlib.Core.Bool.{true};
 ghost use mathlib.Core.List.{[], _∷_};
 ghost use Prim.Native.Nat.{_/_, _<_};
 ghost use lib.Dec.{eqb};
@@ -13,7 +12,7 @@ ghost use Rattle.templates.specs.Tables.{at};
 ghost use Rattle.cells.specs.Cells.{noneOrTwo, isDiagonal, belongs, numbersOf};
 ghost use Rattle.cells.specs.Rows.{row3, threes, fours, quadsOf};
 ghost use Rattle.filling.specs.Found.{Found, pushed};
-ghost use Rattle.filling.specs.Next.{Lesser, Least, Visited, NextOf};
+ghost use Rattle.filling.specs.Next.{Hit, Rising, Least, leftOut, Visited, NextOf};
 ghost use Rattle.filling.specs.Filled.{sidesIn, once, paired, covers, fills, onePart};
 use around::row_of;
 use cells::corners3;
@@ -99,54 +98,121 @@ fn push(f: Tets, e: Tet) -> Tets
     Tets { count: k + 1, list }
 }
 
-// The lesser of `least` and the tetrahedron, where this is one of the cell's and not below lo; else `least`.
-fn lesser(labels: &[u16], e: Tet, lo: usize, least: usize, c: &[u16], quads: &[u8]) -> usize
+// The tetrahedron is one of the cell's and not below lo.
+fn is_hit(labels: &[u16], e: Tet, lo: usize, c: &[u16], quads: &[u8]) -> bool
     requires { ⌜ e .0 < length (now labels) / 4 ⌝ }
-    ensures { λ r. ⌜ Lesser (belongs (meshOf [] (now (labels .entry)) []) (quadsOf (now (quads .entry))) (now (c .entry)) (tetAt (now (labels .entry)) [] (e .0))) lo (e .0) least r ⌝ }
+    ensures { λ r. ⌜ Hit (belongs (meshOf [] (now (labels .entry)) []) (quadsOf (now (quads .entry))) (now (c .entry)) (tetAt (now (labels .entry)) [] (e .0))) lo (e .0) r ⌝ }
 {
     let j = e.0 as usize;
     if j < lo {
-        return least;
+        return false;
     }
-    if least <= j {
-        return least;
-    }
-    if belongs_to(labels, e, c, quads) {
-        j
-    } else {
-        least
-    }
+    belongs_to(labels, e, c, quads)
 }
 
-// The least of a row's tetrahedra that is one of the cell's and not below lo; hi where none below hi is.
+// The least of a row's tetrahedra that is one of the cell's and not below lo; hi where none below hi is. The row rises, so the first is it.
 fn least_in(labels: &[u16], row: &[u16], lo: usize, hi: usize, c: &[u16], quads: &[u8]) -> usize
-    requires { ⌜ Within (length (now labels) / 4) (now row) ⌝ }
+    requires { ⌜ Within (length (now labels) / 4) (now row) × Rising (now row) ⌝ }
     ensures { λ r. ⌜ Least (λ j. belongs (meshOf [] (now (labels .entry)) []) (quadsOf (now (quads .entry))) (now (c .entry)) (tetAt (now (labels .entry)) [] j)) lo hi (now (row .entry)) (length (now (row .entry))) r ⌝ }
 {
-    let mut least = hi;
     let mut k = 0;
     while k < row.len() {
         let i = row[k];
-        least = lesser(labels, Tet(i), lo, least, c, quads);
+        let j = i as usize;
+        if hi <= j {
+            return hi;
+        }
+        if is_hit(labels, Tet(i), lo, c, quads) {
+            return j;
+        }
         k += 1;
     }
-    least
+    hi
 }
 
-// The search's state at a corner: the least tetrahedron so far, and how many corners were left out.
-struct Step {
-    least: usize,
-    out: usize,
+// Three corners of a cell, those with the most tetrahedra, and how many these are.
+struct Crowd {
+    a: u16,
+    b: u16,
+    d: u16,
+    most: usize,
+    more: usize,
+    many: usize,
 }
 
-// A corner with many tetrahedra may be left out, as one of at most three: four vertices of a tetrahedron do not all stand among three.
-fn is_crowded(out: usize, size: usize) -> bool
-    ensures { λ r. ⌜ (r ≡ true → out < 3) ⌝ }
+// With one corner more, where it has more than one of them.
+fn crowded_by(w: Crowd, v: Vertex, size: usize) -> Crowd {
+    let v = v.0;
+    if w.most < size {
+        return Crowd {
+            a: v,
+            b: w.a,
+            d: w.b,
+            most: size,
+            more: w.most,
+            many: w.more,
+        };
+    }
+    if w.more < size {
+        return Crowd {
+            a: w.a,
+            b: v,
+            d: w.b,
+            most: w.most,
+            more: size,
+            many: w.more,
+        };
+    }
+    if w.many < size {
+        return Crowd {
+            a: w.a,
+            b: w.b,
+            d: v,
+            most: w.most,
+            more: w.more,
+            many: size,
+        };
+    }
+    w
+}
+
+// The three corners to leave out. Any three would do: the choice is a matter of speed alone.
+fn crowd_of(labels: &[u16], n: usize, offsets: &[u16], entries: &[u16], c: &[u16]) -> Crowd
+    requires { ⌜ Indexed (now labels) n (now offsets) (now entries) ⌝ }
 {
-    if out < 3 { 40 < size } else { false }
+    let mut w = Crowd {
+        a: 65535,
+        b: 65535,
+        d: 65535,
+        most: 0,
+        more: 0,
+        many: 0,
+    };
+    let mut k = 0;
+    while k < c.len() {
+        let v = c[k];
+        let row = row_of(labels, n, offsets, entries, Vertex(v));
+        w = crowded_by(w, Vertex(v), row.size);
+        k += 1;
+    }
+    w
 }
 
-// The same of the tetrahedra around one vertex more, unless that is left out.
+// The vertex is one of the three.
+fn is_crowded(w: Crowd, v: Vertex) -> bool
+    ensures { λ r. ⌜ r ≡ isIn (v .0) (leftOut w) ⌝ }
+{
+    let v = v.0;
+    if v == w.a {
+        return true;
+    }
+    if v == w.b {
+        return true;
+    }
+    v == w.d
+}
+
+// The lesser of hi and the least of the tetrahedra around a vertex, unless that is left out.
 fn visit(
     labels: &[u16],
     n: usize,
@@ -155,35 +221,31 @@ fn visit(
     v: Vertex,
     lo: usize,
     hi: usize,
-    out: usize,
+    w: Crowd,
     c: &[u16],
     quads: &[u8],
-) -> Step
+) -> usize
     requires { ⌜ Indexed (now labels) n (now offsets) (now entries) ⌝ }
-    ensures { λ r. ⌜ Visited (λ j. belongs (meshOf [] (now (labels .entry)) []) (quadsOf (now (quads .entry))) (now (c .entry)) (tetAt (now (labels .entry)) [] j)) lo hi out (around (now (labels .entry)) (v .0)) r ⌝ }
+    ensures { λ r. ⌜ Visited (λ j. belongs (meshOf [] (now (labels .entry)) []) (quadsOf (now (quads .entry))) (now (c .entry)) (tetAt (now (labels .entry)) [] j)) lo hi (leftOut w) (v .0) (around (now (labels .entry)) (v .0)) r ⌝ }
 {
+    if is_crowded(w, v) {
+        return hi;
+    }
     let row = row_of(labels, n, offsets, entries, v);
     let from = row.from;
-    let size = row.size;
-    if is_crowded(out, size) {
-        return Step {
-            least: hi,
-            out: out + 1,
-        };
-    }
-    let end = from + size;
-    let least = least_in(labels, &entries[from..end], lo, hi, c, quads);
-    Step { least, out }
+    let end = from + row.size;
+    least_in(labels, &entries[from..end], lo, hi, c, quads)
 }
 
-// The next of the cell's tetrahedra, from lo on; the number of all where there is none. Each has a corner of the cell, so it is looked for
-// around these, but for three of the crowded ones.
+// The next of the cell's tetrahedra, from lo on; the number of all where there is none. Each has four corners of the cell, so it is looked
+// for around these, but for the three left out.
 fn next(
     labels: &[u16],
     n: usize,
     offsets: &[u16],
     entries: &[u16],
     lo: usize,
+    w: Crowd,
     c: &[u16],
     quads: &[u8],
 ) -> usize
@@ -191,11 +253,10 @@ fn next(
     ensures { λ r. ⌜ NextOf (λ j. belongs (meshOf [] (now (labels .entry)) []) (quadsOf (now (quads .entry))) (now (c .entry)) (tetAt (now (labels .entry)) [] j)) lo (length (now (labels .entry)) / 4) r ⌝ }
 {
     let mut least = labels.len() / 4;
-    let mut out: usize = 0;
     let mut k = 0;
     while k < c.len() {
         let v = c[k];
-        let s = visit(
+        least = visit(
             labels,
             n,
             offsets,
@@ -203,12 +264,10 @@ fn next(
             Vertex(v),
             lo,
             least,
-            out,
+            w,
             c,
             quads,
         );
-        least = s.least;
-        out = s.out;
         k += 1;
     }
     least
@@ -227,14 +286,15 @@ pub fn find(
     ensures { λ r. ⌜ Found (numbersOf (meshOf [] (now (labels .entry)) []) (quadsOf (now (quads .entry))) (now (c .entry))) r ⌝ }
 {
     let t = labels.len() / 4;
+    let w = crowd_of(labels, n, offsets, entries, c);
     let mut found = Tets {
         count: 0,
         list: [65535; 25],
     };
-    let mut i = next(labels, n, offsets, entries, 0, c, quads);
+    let mut i = next(labels, n, offsets, entries, 0, w, c, quads);
     while i < t {
         found = push(found, Tet(i as u16));
-        i = next(labels, n, offsets, entries, i + 1, c, quads);
+        i = next(labels, n, offsets, entries, i + 1, w, c, quads);
     }
     found
 }

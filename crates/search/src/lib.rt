@@ -6,7 +6,7 @@ use cells::is_sound;
 use neighbours::row_of;
 use space::Vertex;
 use templates::is_in;
-use verdict::judge;
+use verdict::is_cell;
 ghost use mathlib.Core.Path.{_≡_};
 ghost use mathlib.Core.Logic.{_⊎_};
 ghost use mathlib.Core.Bool.{true, _&&_};
@@ -709,7 +709,7 @@ fn is_leaf(
         return false;
     }
     let c = letters(kind, s);
-    judge(coords, labels, parts, n, offsets, entries, kind, &c) == 0
+    is_cell(coords, labels, parts, n, offsets, entries, kind, &c)
 }
 
 // ---- the search

@@ -1,3 +1,4 @@
 pub mod Bare
 pub mod Numbers
 pub mod Cell
+pub mod Solid

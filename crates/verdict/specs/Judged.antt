@@ -2,13 +2,15 @@
 -- Assumes nothing.
 use Prim.Native.Nat.{ℕ, _/_}
 use mathlib.Core.Path.{_≡_}
-use mathlib.Core.Bool.{Bool, cond}
+use mathlib.Core.Bool.{Bool, cond, _&&_}
 use mathlib.Core.List.{List, []}
 use lib.IntN.{ℤ}
 use lib.ListN.{length}
+use Rattle.space.specs.Mesh.{Mesh}
 use Rattle.space.specs.Arrays.{meshOf, Close}
 use Rattle.around.specs.Index.{Indexed}
-use Rattle.cells.specs.Cells.{isFilledBy, isOnePart}
+use Rattle.templates.specs.Tables.{Template}
+use Rattle.cells.specs.Cells.{isTuple, isSound, isFilledBy, isFilled, isOnePart}
 use Rattle.cells.specs.Rows.{threes, tabled, quadsOf}
 
 -- coordinates in bounds, a part a tetrahedron, and the index of the labels
@@ -25,3 +27,7 @@ lastOf filled one = cond filled (cond one 0 6) 5
 unfoldable pub lastFailing : List ℕ → List ℕ → List ℕ → List ℕ → List ℕ → List ℕ → ℕ
 lastFailing ls ps c ts qs ws =
     lastOf (isFilledBy (meshOf [] ls []) (tabled 0 [] ts qs []) c (threes ws)) (isOnePart (meshOf [] ls ps) (quadsOf qs) c)
+
+-- conditions 1, 4, 5 and 6
+unfoldable pub isSolid : Mesh → Template → List ℕ → Bool
+isSolid m t c = isTuple m t c && isSound m t c && (isFilled m t c && isOnePart m t c)

@@ -7,11 +7,11 @@ ghost use Rattle.space.specs.Arrays.{meshOf};
 ghost use Rattle.around.specs.Build.{Within};
 ghost use Rattle.around.specs.Index.{Indexed};
 ghost use Rattle.templates.specs.Tables.{hexahedron, prism, pyramid, templateOf};
-ghost use Rattle.cells.specs.Cells.{inside, numbersOf, firstFailing};
+ghost use Rattle.cells.specs.Cells.{inside, numbersOf, isCell, firstFailing};
 ghost use Rattle.cells.specs.Rows.{threes, fours, tabled, quadsOf};
 ghost use Rattle.filling.specs.Found.{Found};
 ghost use Rattle.filling.specs.Filled.{sidesIn, fills, onePart};
-ghost use Rattle.verdict.specs.Judged.{Arrays, lastOf, lastFailing};
+ghost use Rattle.verdict.specs.Judged.{Arrays, lastOf, lastFailing, isSolid};
 use cells::has_edges;
 use cells::has_faces;
 use cells::is_sound;
@@ -300,6 +300,170 @@ pub fn judge(
     ensures { λ r. ⌜ r ≡ firstFailing (meshOf (now (coords .entry)) (now (labels .entry)) (now (parts .entry))) (templateOf kind) (take (templateOf kind .corners) (now (tuple .entry))) ⌝ }
 {
     judge_kind(coords, labels, parts, n, offsets, entries, kind, tuple)
+}
+
+// ---- whether a tuple is a cell
+
+// Conditions 1, 4, 5 and 6 for the template that these tables say, the cheap ones first; `within` are the triples on no face.
+fn is_solid(
+    coords: &[i64],
+    labels: &[u16],
+    parts: &[u16],
+    n: usize,
+    offsets: &[u16],
+    entries: &[u16],
+    c: &[u16],
+    corners: usize,
+    triangles: &[u8],
+    quads: &[u8],
+    triples: &[u8],
+    within: &[u8],
+) -> bool
+    requires { ⌜ Arrays (now coords) (now labels) (now parts) n (now offsets) (now entries) ⌝ }
+    requires { ⌜ threes (now within) ≡ inside (tabled corners [] (now triangles) (now quads) (now triples)) ⌝ }
+    ensures { λ r. ⌜ r ≡ isSolid (meshOf (now (coords .entry)) (now (labels .entry)) (now (parts .entry))) (tabled corners [] (now (triangles .entry)) (now (quads .entry)) (now (triples .entry))) (now (c .entry)) ⌝ }
+{
+    if !is_tuple(coords, c, corners) {
+        return false;
+    }
+    if !is_sound(coords, c, triples) {
+        return false;
+    }
+    judge_tets(
+        labels,
+        parts,
+        n,
+        offsets,
+        entries,
+        c,
+        triangles,
+        quads,
+        within,
+    )
+        == 0
+}
+
+fn is_hexahedron(
+    coords: &[i64],
+    labels: &[u16],
+    parts: &[u16],
+    n: usize,
+    offsets: &[u16],
+    entries: &[u16],
+    c: &[u16],
+) -> bool
+    requires { ⌜ Arrays (now coords) (now labels) (now parts) n (now offsets) (now entries) ⌝ }
+    ensures { λ r. ⌜ r ≡ isCell (meshOf (now (coords .entry)) (now (labels .entry)) (now (parts .entry))) hexahedron (now (c .entry)) ⌝ }
+{
+    is_solid(
+        coords,
+        labels,
+        parts,
+        n,
+        offsets,
+        entries,
+        c,
+        8,
+        &HEX_TRIANGLES,
+        &HEX_QUADS,
+        &HEX_TRIPLES,
+        &HEX_INSIDE,
+    )
+}
+
+fn is_prism(
+    coords: &[i64],
+    labels: &[u16],
+    parts: &[u16],
+    n: usize,
+    offsets: &[u16],
+    entries: &[u16],
+    c: &[u16],
+) -> bool
+    requires { ⌜ Arrays (now coords) (now labels) (now parts) n (now offsets) (now entries) ⌝ }
+    ensures { λ r. ⌜ r ≡ isCell (meshOf (now (coords .entry)) (now (labels .entry)) (now (parts .entry))) prism (now (c .entry)) ⌝ }
+{
+    is_solid(
+        coords,
+        labels,
+        parts,
+        n,
+        offsets,
+        entries,
+        c,
+        6,
+        &PRISM_TRIANGLES,
+        &PRISM_QUADS,
+        &PRISM_TRIPLES,
+        &PRISM_INSIDE,
+    )
+}
+
+fn is_pyramid(
+    coords: &[i64],
+    labels: &[u16],
+    parts: &[u16],
+    n: usize,
+    offsets: &[u16],
+    entries: &[u16],
+    c: &[u16],
+) -> bool
+    requires { ⌜ Arrays (now coords) (now labels) (now parts) n (now offsets) (now entries) ⌝ }
+    ensures { λ r. ⌜ r ≡ isCell (meshOf (now (coords .entry)) (now (labels .entry)) (now (parts .entry))) pyramid (now (c .entry)) ⌝ }
+{
+    is_solid(
+        coords,
+        labels,
+        parts,
+        n,
+        offsets,
+        entries,
+        c,
+        5,
+        &PYRAMID_TRIANGLES,
+        &PYRAMID_QUADS,
+        &PYRAMID_TRIPLES,
+        &PYRAMID_INSIDE,
+    )
+}
+
+fn is_of_kind(
+    coords: &[i64],
+    labels: &[u16],
+    parts: &[u16],
+    n: usize,
+    offsets: &[u16],
+    entries: &[u16],
+    kind: u16,
+    tuple: &[u16],
+) -> bool
+    requires { ⌜ Arrays (now coords) (now labels) (now parts) n (now offsets) (now entries) × (8 ≤ length (now tuple)) ⌝ }
+    ensures { λ r. ⌜ r ≡ isCell (meshOf (now (coords .entry)) (now (labels .entry)) (now (parts .entry))) (templateOf kind) (take (templateOf kind .corners) (now (tuple .entry))) ⌝ }
+{
+    if kind == 8 {
+        return is_hexahedron(coords, labels, parts, n, offsets, entries, &tuple[..8]);
+    }
+    if kind == 6 {
+        return is_prism(coords, labels, parts, n, offsets, entries, &tuple[..6]);
+    }
+    is_pyramid(coords, labels, parts, n, offsets, entries, &tuple[..5])
+}
+
+// The tuple is a cell: as `judge` would say, but conditions 2 and 3 are not looked at, since 5 implies them.
+pub fn is_cell(
+    coords: &[i64],
+    labels: &[u16],
+    parts: &[u16],
+    n: usize,
+    offsets: &[u16],
+    entries: &[u16],
+    kind: u16,
+    tuple: &[u16; 8],
+) -> bool
+    requires { ⌜ Arrays (now coords) (now labels) (now parts) n (now offsets) (now entries) ⌝ }
+    ensures { λ r. ⌜ r ≡ isCell (meshOf (now (coords .entry)) (now (labels .entry)) (now (parts .entry))) (templateOf kind) (take (templateOf kind .corners) (now (tuple .entry))) ⌝ }
+{
+    is_of_kind(coords, labels, parts, n, offsets, entries, kind, tuple)
 }
 
 // ---- a cell's tetrahedra

@@ -15,13 +15,16 @@ use Rattle.filling.proofs.find.Statement.{statement}
 use Rattle.filling.proofs.find.Tie as tie
 
 abbrev Inv-loop : tie.InvT-loop
-Inv-loop labels n offsets entries c quads t found₀ i₀ found i = (t ≡ length labels / 4) × ((i ≤ t) × ((i < t → belongs (meshOf [] labels []) (quadsOf quads) c (tetAt labels [] i) ≡ true) × FoundUp (λ j. belongs (meshOf [] labels []) (quadsOf quads) c (tetAt labels [] j)) i found))
+Inv-loop labels n offsets entries c quads t w found₀ i₀ found i = (t ≡ length labels / 4) × ((i ≤ t) × ((i < t → belongs (meshOf [] labels []) (quadsOf quads) c (tetAt labels [] i) ≡ true) × FoundUp (λ j. belongs (meshOf [] labels []) (quadsOf quads) c (tetAt labels [] j)) i found))
 
 abbrev μ-loop : tie.MeasureT-loop
-μ-loop labels n offsets entries c quads t found₀ i₀ found i = t - i
+μ-loop labels n offsets entries c quads t w found₀ i₀ found i = t - i
+
+crowd-of-requires : tie.Need-crowd-of-requires Inv-loop μ-loop
+crowd-of-requires c κs = c .before .before .before .before .before .pre
 
 next-requires : tie.Need-next-requires Inv-loop μ-loop
-next-requires c κs = c .before .before .before .before .before .pre
+next-requires c κs = c .before .before .before .before .before .before .pre
 
 loop-holds : tie.Need-loop-holds Inv-loop μ-loop
 unfolding keep
@@ -29,8 +32,8 @@ loop-holds c =
     let a = c .next .ensures in
     (refl, (a .le, (a .is, found-gap (record { low = omega arith; found = record { count = refl; list = refl } }) (omega arith) a)))
 
-cast-t13 : tie.Need-cast-t13 Inv-loop μ-loop
-cast-t13 c = omega arith
+cast-t14 : tie.Need-cast-t14 Inv-loop μ-loop
+cast-t14 c = omega arith
 
 push-requires : tie.Need-push-requires Inv-loop μ-loop
 push-requires c κs = omega arith
@@ -39,7 +42,7 @@ add-next : tie.Need-add-next Inv-loop μ-loop
 add-next c = omega arith
 
 next-requires-2 : tie.Need-next-requires-2 Inv-loop μ-loop
-next-requires-2 c κs = c .before .before .before .before .before .before .before .before .before .pre
+next-requires-2 c κs = c .before .before .before .before .before .before .before .before .before .before .pre
 
 loop-less : tie.Need-loop-less Inv-loop μ-loop
 loop-less c = omega (arith, c .next2 .ensures .from (omega arith))
@@ -53,7 +56,7 @@ loop-again c =
 returns : tie.Need-returns Inv-loop μ-loop
 unfolding numbersOf
 returns c =
-    let s = c .before .before .before .before .before .before .before .before in
+    let s = c .before .before .before .before .before .before .before .before .before in
     let ls = s .args .labels .now in
     let e : c .before .loop .i ≡ length ls / 4 = omega arith in
     rw (numbers-from (meshOf [] ls []) (quadsOf (s .args .quads .now)) (s .args .c .now) (tetAt ls []) (length ls / 4) 0) (rw e at (c .before .loop .inv .1 .1 .1 .found))
@@ -64,9 +67,10 @@ find-spec =
     (tie.spec
     Inv-loop
     μ-loop
+    crowd-of-requires
     next-requires
     loop-holds
-    cast-t13
+    cast-t14
     push-requires
     add-next
     next-requires-2

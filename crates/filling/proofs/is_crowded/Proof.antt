@@ -1,14 +1,18 @@
 -- `filling::is_crowded` meets its contract. Assumes nothing.
-use mathlib.Core.Bool.{false≢true}
-use borrow.Author.Needs.{needs}
+use mathlib.Core.Path.{sym}
+use borrow.Author.Tests.{eq-eqb, ne-eqb}
+use Rattle.base.proofs.Bools.{or-false}
 use Rattle.filling.proofs.is_crowded.Statement.{statement}
 use Rattle.filling.proofs.is_crowded.Tie as tie
 
 returns : tie.Need-returns
-returns c = search needs
+returns c = sym (rw (eq-eqb _ _ (c .if1 .taken)))
 
 returns-2 : tie.Need-returns-2
-returns-2 c = λ e. absurd (false≢true e)
+returns-2 c = sym (rw (ne-eqb _ _ (c .before .before .if1 .left), eq-eqb _ _ (c .if2 .taken)))
+
+returns-3 : tie.Need-returns-3
+returns-3 c = sym (rw (ne-eqb _ _ (c .before .before .before .if1 .left), ne-eqb _ _ (c .before .if2 .left)) (or-false _))
 
 pub is-crowded-spec : {M : Type 1} → statement M
-is-crowded-spec = tie.close (tie.spec returns returns-2)
+is-crowded-spec = tie.close (tie.spec returns returns-2 returns-3)

@@ -8,15 +8,15 @@ use Rattle.space.specs.Arrays.{tetAt, meshOf}
 use Rattle.cells.specs.Cells.{belongs}
 use Rattle.cells.specs.Rows.{quadsOf}
 use Rattle.filling.specs.Next.{Least}
-use Rattle.filling.proofs.Nearby.{least-start, least-next}
+use Rattle.filling.proofs.Nearby.{least-start, least-next, least-past, least-hit}
 use Rattle.filling.proofs.least_in.Statement.{statement}
 use Rattle.filling.proofs.least_in.Tie as tie
 
 abbrev Inv-loop : tie.InvT-loop
-Inv-loop labels row lo hi c quads least₀ k₀ least k = (k ≤ length row) × Least (λ j. belongs (meshOf [] labels []) (quadsOf quads) c (tetAt labels [] j)) lo hi row k least
+Inv-loop labels row lo hi c quads k₀ k = (k ≤ length row) × Least (λ j. belongs (meshOf [] labels []) (quadsOf quads) c (tetAt labels [] j)) lo hi row k hi
 
 abbrev μ-loop : tie.MeasureT-loop
-μ-loop labels row lo hi c quads least₀ k₀ least k = length row - k
+μ-loop labels row lo hi c quads k₀ k = length row - k
 
 loop-holds : tie.Need-loop-holds Inv-loop μ-loop
 loop-holds c = (omega arith, least-start)
@@ -27,10 +27,19 @@ mul-i c = omega arith
 shared-slice-read-i : tie.Need-shared-slice-read-i Inv-loop μ-loop
 shared-slice-read-i c = omega arith
 
-lesser-requires : tie.Need-lesser-requires Inv-loop μ-loop
-lesser-requires c κs =
-    let s = c .before .before .before .before .before .before .before in
-    omega (arith, s .pre .below (c .before .before .loop .k) (omega arith))
+cast-j : tie.Need-cast-j Inv-loop μ-loop
+cast-j c = let s = c .before .before .before .before .before .before .before in omega (arith, s .pre .0 .below (c .before .before .loop .k) (omega arith))
+
+returns : tie.Need-returns Inv-loop μ-loop
+returns c = let s = c .before .before .before .before .before .before .before .before in least-past (c .before .before .before .loop .inv .1) (s .pre .1) (omega arith) (c .if1 .taken)
+
+is-hit-requires : tie.Need-is-hit-requires Inv-loop μ-loop
+is-hit-requires c κs =
+    let s = c .before .before .before .before .before .before .before .before in
+    omega (arith, s .pre .0 .below (c .before .before .before .loop .k) (omega arith))
+
+returns-2 : tie.Need-returns-2 Inv-loop μ-loop
+returns-2 c = let s = c .before .before .before .before .before .before .before .before .before .before in least-hit (c .before .before .before .before .before .loop .inv .1) (s .pre .1) (omega arith) (omega arith) (c .before .is-hit .ensures) (c .if2 .taken)
 
 add-k : tie.Need-add-k Inv-loop μ-loop
 add-k c = omega arith
@@ -39,10 +48,10 @@ loop-less : tie.Need-loop-less Inv-loop μ-loop
 loop-less c = omega arith
 
 loop-again : tie.Need-loop-again Inv-loop μ-loop
-loop-again c = (omega arith, least-next (c .before .before .before .loop .inv .1) (c .lesser .ensures))
+loop-again c = (omega arith, least-next (c .before .before .before .before .before .loop .inv .1) (c .before .is-hit .ensures) (c .if2 .left))
 
-returns : tie.Need-returns Inv-loop μ-loop
-returns c =
+returns-3 : tie.Need-returns-3 Inv-loop μ-loop
+returns-3 c =
     let s = c .before .before .before .before .before .before in
     let e : c .before .loop .k ≡ length (s .args .row .now) = omega arith in
     rw e at (c .before .loop .inv .1)
@@ -56,8 +65,11 @@ least-in-spec =
     loop-holds
     mul-i
     shared-slice-read-i
-    lesser-requires
+    cast-j
+    returns
+    is-hit-requires
+    returns-2
     add-k
     loop-less
     loop-again
-    returns)
+    returns-3)

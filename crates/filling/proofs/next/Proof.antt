@@ -6,16 +6,16 @@ use native.Mathlib.Omega.{arith}
 use Rattle.space.specs.Arrays.{tetAt, meshOf}
 use Rattle.cells.specs.Cells.{belongs}
 use Rattle.cells.specs.Rows.{quadsOf}
-use Rattle.filling.specs.Next.{NextBut}
+use Rattle.filling.specs.Next.{Next, leftOut}
 use Rattle.filling.proofs.Nearby.{next-start, next-visit, next-done}
 use Rattle.filling.proofs.next.Statement.{statement}
 use Rattle.filling.proofs.next.Tie as tie
 
 abbrev Inv-loop : tie.InvT-loop
-Inv-loop labels n offsets entries lo c quads least₀ out₀ k₀ least out k = (k ≤ length c) × NextBut (λ j. belongs (meshOf [] labels []) (quadsOf quads) c (tetAt labels [] j)) labels c lo (length labels / 4) k out least
+Inv-loop labels n offsets entries lo w c quads least₀ k₀ least k = (k ≤ length c) × Next (λ j. belongs (meshOf [] labels []) (quadsOf quads) c (tetAt labels [] j)) labels c lo (length labels / 4) k (leftOut w) least
 
 abbrev μ-loop : tie.MeasureT-loop
-μ-loop labels n offsets entries lo c quads least₀ out₀ k₀ least out k = length c - k
+μ-loop labels n offsets entries lo w c quads least₀ k₀ least k = length c - k
 
 loop-holds : tie.Need-loop-holds Inv-loop μ-loop
 loop-holds c = (omega arith, next-start)
@@ -41,7 +41,7 @@ loop-again c = (omega arith, next-visit (omega arith) (c .before .before .before
 returns : tie.Need-returns Inv-loop μ-loop
 returns c =
     let s = c .before .before .before .before .before .before .before in
-    next-done (s .args .labels .now) (s .args .quads .now) (s .args .c .now) (s .args .n) (s .pre .labelled) (c .before .loop .inv .1) (omega arith)
+    next-done (s .args .labels .now) (s .args .quads .now) (s .args .c .now) (s .args .n) (s .pre .labelled) (omega arith) (c .before .loop .inv .1) (omega arith)
 
 pub next-spec : {M : Type 1} → statement M
 next-spec =

@@ -1,23 +1,20 @@
 -- `filling::visit` meets its contract. Assumes nothing.
-use mathlib.Core.Path.{refl}
+use mathlib.Core.Path.{refl, sym, _∙_}
 use mathlib.Core.Logic.{inl, inr}
-use native.Mathlib.Omega.{arith}
 use Rattle.around.proofs.Around.{row-slice, slice-within}
+use Rattle.filling.proofs.Nearby.{around-rises}
 use borrow.Author.Needs.{needs}
 use Rattle.filling.proofs.visit.Statement.{statement}
 use Rattle.filling.proofs.visit.Tie as tie
 
-row-of-requires : tie.Need-row-of-requires
-row-of-requires c κs = search needs
-
 is-crowded-requires : tie.Need-is-crowded-requires
 is-crowded-requires c κs = search needs
 
-add-t17 : tie.Need-add-t17
-add-t17 c = omega (arith, c .before .is-crowded .ensures (c .if1 .taken))
-
 returns : tie.Need-returns
-returns c = record { is = inl (c .before .is-crowded .ensures (c .if1 .taken), (refl, refl)) }
+returns c = record { is = inl (sym (c .before .is-crowded .ensures) ∙ c .if1 .taken, refl) }
+
+row-of-requires : tie.Need-row-of-requires
+row-of-requires c κs = search needs
 
 add-end : tie.Need-add-end
 add-end c = search needs
@@ -35,19 +32,18 @@ part-least-in-end : tie.Need-part-least-in-end
 part-least-in-end c = search needs
 
 least-in-requires : tie.Need-least-in-requires
-least-in-requires c κs = slice-within (c .before .before .before .row-of .ensures)
+least-in-requires c κs = (slice-within (c .before .before .row-of .ensures), rw (row-slice (c .before .before .row-of .ensures)) (around-rises _ _))
 
 returns-2 : tie.Need-returns-2
-returns-2 c = record { is = inr (refl, rw (row-slice (c .before .before .before .before .row-of .ensures)) at (c .least-in .ensures)) }
+returns-2 c = record { is = inr (rw (row-slice (c .before .before .before .row-of .ensures)) at (c .least-in .ensures)) }
 
 pub visit-spec : {M : Type 1} → statement M
 visit-spec =
     tie.close
     (tie.spec
-    row-of-requires
     is-crowded-requires
-    add-t17
     returns
+    row-of-requires
     add-end
     mul-least-in
     sub-least-in

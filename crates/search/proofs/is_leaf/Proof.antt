@@ -1,11 +1,9 @@
 -- `search::is_leaf` meets its contract. Assumes nothing.
-use mathlib.Core.Path.{sym, _∙_, ap}
-use lib.Dec.{eqb}
+use mathlib.Core.Path.{_∙_, ap}
 use Rattle.base.proofs.Bools.{and-fails, and-passes}
 use Rattle.space.specs.Arrays.{meshOf}
-use Rattle.templates.specs.Tables.{templateOf, at}
-use Rattle.cells.specs.Cells.{firstFailing}
-use Rattle.verdict.proofs.Cell.{cell-is}
+use Rattle.templates.specs.Tables.{templateOf}
+use Rattle.cells.specs.Cells.{isCell}
 use Rattle.rule.specs.Rule.{isLeaf}
 use borrow.Author.Needs.{needs}
 use Rattle.search.proofs.is_leaf.Statement.{statement}
@@ -21,8 +19,8 @@ returns c = and-fails (c .before .is-least .ensures) (c .if1 .taken) _
 letters-requires : tie.Need-letters-requires
 letters-requires c κs = search needs
 
-judge-requires : tie.Need-judge-requires
-judge-requires c κs = search needs
+is-cell-requires : tie.Need-is-cell-requires
+is-cell-requires c κs = search needs
 
 returns-2 : tie.Need-returns-2
 unfolding isLeaf
@@ -31,8 +29,8 @@ returns-2 c =
     let m = meshOf (a .coords .now) (a .labels .now) (a .parts .now) in
     let t = templateOf (a .kind) in
     and-passes (c .before .before .before .before .is-least .ensures) (c .before .before .before .if1 .left)
-    (ap (λ v. eqb v 0) (c .judge .ensures ∙ ap (firstFailing m t) (c .before .before .letters .ensures)) ∙ sym (cell-is m t (at (a .s) (t .places))))
+    (c .is-cell .ensures ∙ ap (isCell m t) (c .before .before .letters .ensures))
 
 pub is-leaf-spec : {M : Type 1} → statement M
 is-leaf-spec =
-    tie.close (tie.spec is-least-requires returns letters-requires judge-requires returns-2)
+    tie.close (tie.spec is-least-requires returns letters-requires is-cell-requires returns-2)
