@@ -9,7 +9,7 @@ use templates::is_in;
 use verdict::judge;
 ghost use mathlib.Core.Path.{_≡_};
 ghost use mathlib.Core.Logic.{_⊎_};
-ghost use mathlib.Core.Bool.{_&&_};
+ghost use mathlib.Core.Bool.{true, _&&_};
 ghost use mathlib.Core.List.{List, []};
 ghost use Prim.Native.Nat.{ℕ, _+_, _/_, _<_, _≤_};
 ghost use lib.Dec.{leb, ltb};
@@ -610,6 +610,16 @@ fn hunt(
     n
 }
 
+// From the third place on it pays to look ahead where the row is long; a short row is faster to scan.
+fn looks_ahead(d: usize, size: usize) -> bool
+    ensures { λ r. ⌜ (r ≡ true → 1 < d) ⌝ }
+{
+    if d <= 1 {
+        return false;
+    }
+    32 < size
+}
+
 // Where to go on at place d from lo: a vertex with which the tuple passes, or n. No cell is left out before it.
 fn seek(
     coords: &[i64],
@@ -631,11 +641,11 @@ fn seek(
         return lo;
     }
     let x = base_of(kind) + d;
-    if 1 < d {
-        return hunt(coords, labels, n, offsets, entries, t, x, d, lo);
-    }
     let u = t[joined_of(x)];
     let r = row_of(labels, n, table, Vertex(u));
+    if looks_ahead(d, r.size) {
+        return hunt(coords, labels, n, offsets, entries, t, x, d, lo);
+    }
     let from = r.from;
     let end = from + r.size;
     scan(

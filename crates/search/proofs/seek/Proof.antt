@@ -22,29 +22,10 @@ add-x c =
     let z = c .before .before .before .before .before .before in
     omega (arith, row-in (z .args .kind) (z .args .d) (z .pre .1), c .base-of .ensures .0)
 
-hunt-requires : tie.Need-hunt-requires
-hunt-requires c κs =
-    let b = c .before in
-    let z = b .before .before .before .before .before .before in
-    let i = row-in (z .args .kind) (z .args .d) (z .pre .1) in
-    (((z .pre .0 .close, z .pre .0 .indexed), z .pre .0 .few), (omega (arith, i, b .base-of .ensures .0), i .1))
-
-returns-2 : tie.Need-returns-2
-returns-2 c =
-    let b = c .before .before in
-    let z = b .before .before .before .before .before .before in
-    let a = z .args in
-    let g = z .good .1 .1 .1 .1 .1 .1 .1 .0 in
-    let l : length (a .t8) ≡ 8 = search needs in
-    let q : b .base-of .result + a .d ≡ base (a .kind) + a .d = ap (λ y. y + a .d) (b .base-of .ensures .0) in
-    λ ps.
-    hunt-skips (a .coords .now) (a .labels .now) ps (a .kind) (a .t8) (a .d) (z .pre .1) (omega (arith, row-in (a .kind) (a .d) (z .pre .1))) (omega arith) (rw q at (c .hunt .ensures))
-
 joined-of-requires : tie.Need-joined-of-requires
 joined-of-requires c κs =
-    let b = c .before in
-    let z = b .before .before .before .before .before .before in
-    omega (arith, row-in (z .args .kind) (z .args .d) (z .pre .1), b .base-of .ensures .0)
+    let z = c .before .before .before .before .before .before in
+    omega (arith, row-in (z .args .kind) (z .args .d) (z .pre .1), c .base-of .ensures .0)
 
 mul-u : tie.Need-mul-u
 mul-u c = search needs
@@ -54,6 +35,28 @@ array-read-u c = search needs
 
 row-of-requires : tie.Need-row-of-requires
 row-of-requires c κs = search needs
+
+looks-ahead-requires : tie.Need-looks-ahead-requires
+looks-ahead-requires c κs = search needs
+
+hunt-requires : tie.Need-hunt-requires
+hunt-requires c κs =
+    let b = c .before .before .before .before in
+    let z = b .before .before .before .before .before .before in
+    let i = row-in (z .args .kind) (z .args .d) (z .pre .1) in
+    (((z .pre .0 .close, z .pre .0 .indexed), z .pre .0 .few), (omega (arith, i, b .base-of .ensures .0), i .1))
+
+returns-2 : tie.Need-returns-2
+returns-2 c =
+    let f = c .before in
+    let b = f .before .before .before .before in
+    let z = b .before .before .before .before .before .before in
+    let a = z .args in
+    let g = z .good .1 .1 .1 .1 .1 .1 .1 .0 in
+    let l : length (a .t8) ≡ 8 = search needs in
+    let q : b .base-of .result + a .d ≡ base (a .kind) + a .d = ap (λ y. y + a .d) (b .base-of .ensures .0) in
+    λ ps.
+    hunt-skips (a .coords .now) (a .labels .now) ps (a .kind) (a .t8) (a .d) (z .pre .1) (omega (arith, row-in (a .kind) (a .d) (z .pre .1))) (f .before .looks-ahead .ensures (f .if2 .taken)) (rw q at (c .hunt .ensures))
 
 add-end : tie.Need-add-end
 add-end c = search needs
@@ -72,16 +75,16 @@ part-scan-end c = search needs
 
 scan-requires : tie.Need-scan-requires
 scan-requires c κs =
-    let b = c .before .before .before .before .before in
+    let b = c .before .before .before .before .before .before in
     let z = b .before .before .before .before .before .before in
     let i = row-in (z .args .kind) (z .args .d) (z .pre .1) in
     ((z .pre .0 .close, z .pre .0 .indexed), (omega (arith, i, b .base-of .ensures .0), i .1))
 
 returns-3 : tie.Need-returns-3
 returns-3 c =
-    let o = c .before .before .before in
+    let o = c .before .before .before .before .before in
     let j = o .before in
-    let b = j .before .before in
+    let b = j .before in
     let z = b .before .before .before .before .before .before in
     let a = z .args in
     let g = z .good .1 .1 .1 .1 .1 .1 .1 .0 in
@@ -98,12 +101,13 @@ seek-spec =
     returns
     base-of-requires
     add-x
-    hunt-requires
-    returns-2
     joined-of-requires
     mul-u
     array-read-u
     row-of-requires
+    looks-ahead-requires
+    hunt-requires
+    returns-2
     add-end
     mul-scan
     sub-scan
