@@ -118,10 +118,10 @@ module _ (ls : List ℕ) (u x : ℕ) where
       let b = parts v (getD row (a .0) 0) (a .2) in
       record { place = a .0; before = a .1; having = b .0; inside = b .1 }
 
-  pub beside-least : {lo best r : ℕ} → Least (ByRow (VertexOf ls) ls (u ∷ x ∷ []) (around ls (fewest ls u x x)) (length (around ls (fewest ls u x x)))) lo best r → Least (Beside ls u x) lo best r
-  beside-least a = least-of a (λ v b. let s = stands v (b .facet) in record { place = s .place; before = s .before; having = s .having; asks = s .inside })
+  pub beside-least : {lo best r : ℕ} → Least (ByRow (VertexOf ls) ls (u ∷ x ∷ []) (around ls (fewest ls u x x)) (length (around ls (fewest ls u x x)))) lo best r → (w : ℕ) → Least (Beside ls u w x) lo best r
+  beside-least a w = least-of a (λ v b. let s = stands v (b .facet) in record { place = s .place; before = s .before; having = s .having; asks = s .inside })
 
-  pub closes-least : {lo best r : ℕ} → Least (ByRow (BesideTet ls u) ls (u ∷ x ∷ []) (around ls (fewest ls u x x)) (length (around ls (fewest ls u x x)))) lo best r → Least (Closes ls u x) lo best r
+  pub closes-least : {lo best r : ℕ} → Least (ByRow (BesideTet ls u x) ls (u ∷ x ∷ []) (around ls (fewest ls u x x)) (length (around ls (fewest ls u x x)))) lo best r → Least (Closes ls u x) lo best r
   closes-least a = least-of a (λ v c.
       let s = stands (c .via) (c .near) in
       record { place = s .place; before = s .before; having = s .having; asks = record { via = c .via; inside = s .inside; asks = c .far } })

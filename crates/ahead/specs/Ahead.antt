@@ -11,16 +11,17 @@ use Rattle.space.specs.Mesh.{together}
 use Rattle.space.specs.Arrays.{row4, meshOf}
 use Rattle.around.specs.Index.{hasAll}
 
--- v makes a facet with u and another vertex x
-pub record Beside (ls : List ℕ) (u x v : ℕ) : Type 0 where
+-- v makes a facet with u and x, which is neither u nor w
+pub record Beside (ls : List ℕ) (u w x v : ℕ) : Type 0 where
   pub other : eqb x u ≡ false
+  pub further : eqb x w ≡ false
   pub facet : together (meshOf [] ls []) (u ∷ x ∷ v ∷ []) ≡ true
 
 -- w, u and v can be corners of a face in this order: a facet has the edge u w, and a facet has u, v and a further vertex of that facet
 pub record Closes (ls : List ℕ) (u w v : ℕ) : Type 0 where
   pub via : ℕ
   pub near : together (meshOf [] ls []) (u ∷ w ∷ via ∷ []) ≡ true
-  pub far : Beside ls u via v
+  pub far : Beside ls u w via v
 
 -- r is `best`, or a number from lo on below it, and none that is asked for from lo on is less
 pub record Least (asked : ℕ → Type 0) (lo best r : ℕ) : Type 0 where
@@ -47,6 +48,6 @@ pub record ByRow (asked : ℕ → ℕ → Type 0) (ls vs row : List ℕ) (i v : 
 abbrev pub VertexOf : List ℕ → ℕ → ℕ → Type 0
 VertexOf ls e v = isIn v (row4 ls e) ≡ true
 
--- v makes a facet with u and another vertex of tetrahedron e
-abbrev pub BesideTet : List ℕ → ℕ → ℕ → ℕ → Type 0
-BesideTet ls u e v = ByOne (Beside ls u) (row4 ls e) v
+-- v makes a facet with u and a vertex of tetrahedron e that is neither u nor w
+abbrev pub BesideTet : List ℕ → ℕ → ℕ → ℕ → ℕ → Type 0
+BesideTet ls u w e v = ByOne (Beside ls u w) (row4 ls e) v

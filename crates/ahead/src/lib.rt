@@ -31,10 +31,14 @@ fn least_vertex(labels: &[u16], e: Tet, lo: usize, best: usize) -> usize
     ensures { λ r. ⌜ Least (VertexOf (now (labels .entry)) (e .0)) lo best r ⌝ }
 {
     let at = 4 * (e.0 as usize);
-    let a = lower(Vertex(labels[at]), lo, best);
-    let b = lower(Vertex(labels[at + 1]), lo, a);
-    let c = lower(Vertex(labels[at + 2]), lo, b);
-    lower(Vertex(labels[at + 3]), lo, c)
+    let p = labels[at];
+    let q = labels[at + 1];
+    let r = labels[at + 2];
+    let s = labels[at + 3];
+    let a = lower(Vertex(p), lo, best);
+    let b = lower(Vertex(q), lo, a);
+    let c = lower(Vertex(r), lo, b);
+    lower(Vertex(s), lo, c)
 }
 
 // The least of best and the vertices from lo on of the row's tetrahedra that have u and x.
@@ -60,24 +64,28 @@ fn is_same(x: Vertex, u: Vertex) -> bool
     x.0 == u.0
 }
 
-// The least of best and the vertices from lo on that make a facet with u and x, where x is not u.
+// The least of best and the vertices from lo on that make a facet with u and x, where x is neither u nor w.
 fn beside(
     labels: &[u16],
     n: usize,
     offsets: &[u16],
     entries: &[u16],
     u: Vertex,
+    w: Vertex,
     x: Vertex,
     lo: usize,
     best: usize,
 ) -> usize
     requires { ⌜ Indexed (now labels) n (now offsets) (now entries) ⌝ }
-    ensures { λ r. ⌜ Least (Beside (now (labels .entry)) (u .0) (x .0)) lo best r ⌝ }
+    ensures { λ r. ⌜ Least (Beside (now (labels .entry)) (u .0) (w .0) (x .0)) lo best r ⌝ }
 {
     if best <= lo {
         return best;
     }
     if is_same(x, u) {
+        return best;
+    }
+    if is_same(x, w) {
         return best;
     }
     let y = rarest(labels, n, offsets, entries, u, x, x);
@@ -95,45 +103,23 @@ fn beside_tet(
     entries: &[u16],
     e: Tet,
     u: Vertex,
+    w: Vertex,
     lo: usize,
     best: usize,
 ) -> usize
     requires { ⌜ Indexed (now labels) n (now offsets) (now entries) ⌝ }
     requires { ⌜ e .0 < length (now labels) / 4 ⌝ }
-    ensures { λ r. ⌜ Least (BesideTet (now (labels .entry)) (u .0) (e .0)) lo best r ⌝ }
+    ensures { λ r. ⌜ Least (BesideTet (now (labels .entry)) (u .0) (w .0) (e .0)) lo best r ⌝ }
 {
     let at = 4 * (e.0 as usize);
-    let a = beside(labels, n, offsets, entries, u, Vertex(labels[at]), lo, best);
-    let b = beside(
-        labels,
-        n,
-        offsets,
-        entries,
-        u,
-        Vertex(labels[at + 1]),
-        lo,
-        a,
-    );
-    let c = beside(
-        labels,
-        n,
-        offsets,
-        entries,
-        u,
-        Vertex(labels[at + 2]),
-        lo,
-        b,
-    );
-    beside(
-        labels,
-        n,
-        offsets,
-        entries,
-        u,
-        Vertex(labels[at + 3]),
-        lo,
-        c,
-    )
+    let p = labels[at];
+    let q = labels[at + 1];
+    let r = labels[at + 2];
+    let s = labels[at + 3];
+    let a = beside(labels, n, offsets, entries, u, w, Vertex(p), lo, best);
+    let b = beside(labels, n, offsets, entries, u, w, Vertex(q), lo, a);
+    let c = beside(labels, n, offsets, entries, u, w, Vertex(r), lo, b);
+    beside(labels, n, offsets, entries, u, w, Vertex(s), lo, c)
 }
 
 // The same for each vertex x of the row's tetrahedra that have u and w.
@@ -150,14 +136,14 @@ fn beside_row(
 ) -> usize
     requires { ⌜ Indexed (now labels) n (now offsets) (now entries) ⌝ }
     requires { ⌜ Within (length (now labels) / 4) (now row) ⌝ }
-    ensures { λ r. ⌜ Least (ByRow (BesideTet (now (labels .entry)) (u .0)) (now (labels .entry)) (u .0 ∷ w .0 ∷ []) (now (row .entry)) (length (now (row .entry)))) lo best r ⌝ }
+    ensures { λ r. ⌜ Least (ByRow (BesideTet (now (labels .entry)) (u .0) (w .0)) (now (labels .entry)) (u .0 ∷ w .0 ∷ []) (now (row .entry)) (length (now (row .entry)))) lo best r ⌝ }
 {
     let mut b = best;
     let mut k = 0;
     while k < row.len() {
         let e = row[k];
         if tet_has2(labels, Tet(e), u, w) {
-            b = beside_tet(labels, n, offsets, entries, Tet(e), u, lo, b);
+            b = beside_tet(labels, n, offsets, entries, Tet(e), u, w, lo, b);
         }
         k += 1;
     }

@@ -39,7 +39,7 @@ covered t ks fs = any (λ f. all (λ k. ltb k (length (t .places))) f && all (λ
 
 -- these triangles, where they are facets, let v follow u and w
 unfoldable pub linked : Template → ℕ → ℕ → ℕ → List (List ℕ) → Bool
-linked t u w v fs = any (λ y. not (eqb y u) && (covered t (u ∷ w ∷ y ∷ []) fs && covered t (u ∷ y ∷ v ∷ []) fs)) (upTo (t .corners))
+linked t u w v fs = any (λ y. (not (eqb y u) && not (eqb y w)) && (covered t (u ∷ w ∷ y ∷ []) fs && covered t (u ∷ y ∷ v ∷ []) fs)) (upTo (t .corners))
 
 unfoldable pub follows : Template → ℕ → ℕ → ℕ → Bool
 follows t u w d = (ltb u d && ltb w d) && any (all (linked t u w d)) (ways t)
@@ -155,19 +155,22 @@ module _ (zs : List ℤ) (ls ps : List ℕ) (k : ℕ) (s : List ℕ) (leaf : isL
   pub leaf-closes : (u w d : ℕ) → d < templateOf k .corners → follows (templateOf k) u w d ≡ true → Closes ls (getD s u 0) (getD s w 0) (getD s d 0)
   unfolding follows linked
   leaf-closes u w d h e =
-      let low = follows-below t u w d e .0 in
+      let low = follows-below t u w d e in
       let way = any-at (all (linked t u w d)) (ways t) (both-right (ltb u d && ltb w d) _ e) in
       let fs = any-at (all (isFacet m t c)) (way .0) (all-at (any (all (isFacet m t c))) (ways t) ways-hold (way .1)) in
       let l = all-at (linked t u w d) (way .0) (way .2) (fs .1) in
-      let r = any-at (λ y. not (eqb y u) && (covered t (u ∷ w ∷ y ∷ []) (fs .0) && covered t (u ∷ y ∷ d ∷ []) (fs .0))) (upTo (t .corners)) l in
+      let r = any-at (λ y. (not (eqb y u) && not (eqb y w)) && (covered t (u ∷ w ∷ y ∷ []) (fs .0) && covered t (u ∷ y ∷ d ∷ []) (fs .0))) (upTo (t .corners)) l in
       let y = r .0 in
-      let b = both-right (not (eqb y u)) _ (r .2) in
-      let z : (y ≡ u → ⊥) = eqb-false y u (not-true (eqb y u) (both-left (not (eqb y u)) _ (r .2))) in
+      let b = both-right (not (eqb y u) && not (eqb y w)) _ (r .2) in
+      let p = both-left (not (eqb y u) && not (eqb y w)) _ (r .2) in
+      let differs : (x : ℕ) → x < t .corners → not (eqb y x) ≡ true → eqb (getD s y 0) (getD s x 0) ≡ false =
+      λ x l e. leaf-apart zs ls ps k s leaf y x (omega (arith, from-at 0 (t .corners) (r .1) .1)) l (eqb-false y x (not-true (eqb y x) e)) in
       record {
         via = getD s y 0;
         near = stands (u ∷ w ∷ y ∷ []) (fs .0) (fs .2) (both-left (covered t (u ∷ w ∷ y ∷ []) (fs .0)) _ b);
         far = record {
-          other = leaf-apart zs ls ps k s leaf y u (omega (arith, from-at 0 (t .corners) (r .1) .1)) (omega arith) z;
+          other = differs u (omega (arith, low .0)) (both-left (not (eqb y u)) _ p);
+          further = differs w (omega (arith, low .1)) (both-right (not (eqb y u)) _ p);
           facet = stands (u ∷ y ∷ d ∷ []) (fs .0) (fs .2) (both-right (covered t (u ∷ w ∷ y ∷ []) (fs .0)) _ b);
         };
       }

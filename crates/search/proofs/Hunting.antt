@@ -70,8 +70,8 @@ module _ {asked : ℕ → Type 0} {n lo : ℕ} where
         ];
       }
 
-pub hunt-less : {asked : ℕ → Type 0} {n v r : ℕ} → Least asked v n r → v < n → n - (r + 1) < n - v
-hunt-less {asked} {n} {v} {r} b h = elim (decLt r n) [ yes l ↦ omega (arith, b .low l) | no l ↦ omega arith ]
+pub hunt-less : {asked : ℕ → Type 0} {n v r q : ℕ} → Least asked v n r → v < n → r < q → n - q < n - v
+hunt-less {asked} {n} {v} {r} b h l = elim (decLt r n) [ yes i ↦ omega (arith, b .low i) | no i ↦ omega arith ]
 
 -- ── one vertex ──
 

@@ -16,6 +16,13 @@ is-same-requires c κs = search needs
 returns-2 : tie.Need-returns-2
 returns-2 c = least-stays (λ v b h. absurd (true≢false (sym (sym (c .before .is-same .ensures) ∙ c .if2 .taken) ∙ b .other)))
 
+is-same-requires-2 : tie.Need-is-same-requires-2
+is-same-requires-2 c κs = search needs
+
+returns-3 : tie.Need-returns-3
+returns-3 c =
+    least-stays (λ v b h. absurd (true≢false (sym (sym (c .before .is-same2 .ensures) ∙ c .if3 .taken) ∙ b .further)))
+
 rarest-requires : tie.Need-rarest-requires
 rarest-requires c κs = search needs
 
@@ -40,11 +47,11 @@ part-least-in-row-end c = search needs
 least-in-row-requires : tie.Need-least-in-row-requires
 least-in-row-requires c κs = slice-within (c .before .before .row-of .ensures)
 
-returns-3 : tie.Need-returns-3
-returns-3 c =
+returns-4 : tie.Need-returns-4
+returns-4 c =
     let d = c .before .before .before in
-    let s = d .before .before .before .before .before .before .before .before .args in
-    beside-least (s .labels .now) (s .u .0) (s .x .0) (rw (row-slice (d .row-of .ensures), d .before .rarest .ensures) at (c .least-in-row .ensures))
+    let s = d .before .before .before .before .before .before .before .before .before .before .args in
+    beside-least (s .labels .now) (s .u .0) (s .x .0) (rw (row-slice (d .row-of .ensures), d .before .rarest .ensures) at (c .least-in-row .ensures)) (s .w .0)
 
 pub beside-spec : {M : Type 1} → statement M
 beside-spec =
@@ -53,6 +60,8 @@ beside-spec =
     returns
     is-same-requires
     returns-2
+    is-same-requires-2
+    returns-3
     rarest-requires
     row-of-requires
     add-end
@@ -61,4 +70,4 @@ beside-spec =
     part-least-in-row-start
     part-least-in-row-end
     least-in-row-requires
-    returns-3)
+    returns-4)

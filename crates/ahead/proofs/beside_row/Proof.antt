@@ -11,7 +11,7 @@ use Rattle.ahead.proofs.beside_row.Statement.{statement}
 use Rattle.ahead.proofs.beside_row.Tie as tie
 
 abbrev Inv-loop : tie.InvT-loop
-Inv-loop labels n offsets entries row u w lo best b₀ k₀ b k = Least (ByRow (BesideTet labels (u .0)) labels (u .0 ∷ w .0 ∷ []) row k) lo best b
+Inv-loop labels n offsets entries row u w lo best b₀ k₀ b k = Least (ByRow (BesideTet labels (u .0) (w .0)) labels (u .0 ∷ w .0 ∷ []) row k) lo best b
 
 abbrev μ-loop : tie.MeasureT-loop
 μ-loop labels n offsets entries row u w lo best b₀ k₀ b k = length row - k

@@ -30,7 +30,7 @@ add-v : tie.Need-add-v Inv-loop μ-loop
 add-v c = omega arith
 
 loop-less : tie.Need-loop-less Inv-loop μ-loop
-loop-less c = hunt-less (c .before .before .leap .ensures) (omega arith)
+loop-less c = hunt-less (c .before .before .leap .ensures) (omega arith) (omega arith)
 
 loop-again : tie.Need-loop-again Inv-loop μ-loop
 loop-again c =
