@@ -1,0 +1,54 @@
+-- `marks::triangles_noted` meets its contract. Assumes nothing.
+use mathlib.Core.Path.{_≡_, refl, sym, _∙_}
+use Prim.Native.Nat.{_/_, _-_}
+use lib.ListN.{length}
+use borrow.Author.Tests.{not-true, not-false}
+use native.Mathlib.Omega.{arith}
+use Rattle.base.proofs.Loop.{AllUp, all-start, all-next, all-fails, all-done}
+use Rattle.space.specs.Arrays.{row4}
+use Rattle.templates.specs.Tables.{at}
+use Rattle.cells.specs.Rows.{row3}
+use Rattle.marks.specs.Marks.{notedFacet}
+use Rattle.marks.proofs.triangles_noted.Statement.{statement}
+use Rattle.marks.proofs.triangles_noted.Tie as tie
+
+abbrev Inv-loop : tie.InvT-loop
+Inv-loop marks c rows k i₀ i = (k ≡ length rows / 3) × AllUp (λ f. notedFacet marks (at c f)) (row3 rows) k i
+
+abbrev μ-loop : tie.MeasureT-loop
+μ-loop marks c rows k i₀ i = k - i
+
+loop-holds : tie.Need-loop-holds Inv-loop μ-loop
+loop-holds c = (refl, all-start)
+
+triangle-noted-requires : tie.Need-triangle-noted-requires Inv-loop μ-loop
+triangle-noted-requires c κs = (c .before .before .before .before .before .before .before .pre, omega arith)
+
+returns : tie.Need-returns Inv-loop μ-loop
+returns c = all-fails (c .before .before .before .loop .inv .1) (omega arith) (sym (c .before .triangle-noted .ensures) ∙ not-true _ (c .if1 .taken))
+
+add-i : tie.Need-add-i Inv-loop μ-loop
+add-i c = omega arith
+
+loop-less : tie.Need-loop-less Inv-loop μ-loop
+loop-less c = omega arith
+
+loop-again : tie.Need-loop-again Inv-loop μ-loop
+loop-again c = (refl, all-next (c .before .before .before .loop .inv .1) (omega arith) (sym (c .before .triangle-noted .ensures) ∙ not-false _ (c .if1 .left)))
+
+returns-2 : tie.Need-returns-2 Inv-loop μ-loop
+returns-2 c = all-done (c .before .loop .inv .1) (omega arith)
+
+pub triangles-noted-spec : {M : Type 1} → statement M
+triangles-noted-spec =
+    tie.close
+    (tie.spec
+    Inv-loop
+    μ-loop
+    loop-holds
+    triangle-noted-requires
+    returns
+    add-i
+    loop-less
+    loop-again
+    returns-2)

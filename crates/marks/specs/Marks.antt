@@ -1,0 +1,39 @@
+-- Marks of facets: a table in which three vertices have one place. Where the place is empty they are no facet; where it is not they may be.
+-- Assumes nothing.
+use Prim.Native.Nat.{ℕ, _+_, _*_, _%_}
+use mathlib.Core.Path.{_≡_}
+use mathlib.Core.Bool.{Bool, true, not, _&&_, _||_}
+use mathlib.Core.List.{List, [], _∷_}
+use lib.Dec.{eqb}
+use lib.ListN.{length, getD}
+use Rattle.base.specs.Lists.{all}
+use Rattle.space.specs.Mesh.{together}
+use Rattle.space.specs.Arrays.{meshOf}
+use Rattle.templates.specs.Tables.{Template, at}
+
+-- the place of three vertices, in whatever order they are named
+unfoldable pub key : ℕ → ℕ → ℕ → ℕ
+key u v w = (12345 * (u + v + w) + (u * u + v * v + w * w)) % 131072
+
+-- there is a mark at the place of three vertices
+unfoldable pub noted : List ℕ → ℕ → ℕ → ℕ → Bool
+noted ms u v w = not (eqb (getD ms (key u v w) 0) 0)
+
+-- every three vertices of a tetrahedron have their mark
+pub record Marked (ls ms : List ℕ) : Type 0 where
+  pub size : length ms ≡ 131072
+  pub facets : (u v w : ℕ) → together (meshOf [] ls []) (u ∷ v ∷ w ∷ []) ≡ true → noted ms u v w ≡ true
+
+-- three vertices in a list, and both triangles of a diagonal of four
+abbrev pub notedFacet : List ℕ → List ℕ → Bool
+notedFacet ms vs = noted ms (getD vs 0 0) (getD vs 1 0) (getD vs 2 0)
+
+abbrev pub splitAt : List ℕ → ℕ → ℕ → ℕ → ℕ → Bool
+splitAt ms a b c d = (noted ms a b c && noted ms a c d) || (noted ms a b d && noted ms b c d)
+
+abbrev pub notedSplit : List ℕ → List ℕ → Bool
+notedSplit ms vs = splitAt ms (getD vs 0 0) (getD vs 1 0) (getD vs 2 0) (getD vs 3 0)
+
+-- every face of a template can be one of the mesh, as far as the marks tell
+unfoldable pub facesNoted : List ℕ → Template → List ℕ → Bool
+facesNoted ms t c = all (λ f. notedFacet ms (at c f)) (t .triangles) && all (λ q. notedSplit ms (at c q)) (t .quads)

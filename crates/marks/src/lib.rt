@@ -1,0 +1,126 @@
+// Marks of facets, by which most vertices that cannot go on a tuple are told at once: a table in which three vertices have one place.
+use cells::corners3;
+use cells::corners4;
+use space::Vertex;
+ghost use mathlib.Core.Path.{_≡_};
+ghost use Prim.Native.Nat.{_*_, _/_, _<_};
+ghost use mathlib.Core.List.{[]};
+ghost use Rattle.base.specs.Lists.{all};
+ghost use lib.ListN.{length};
+ghost use Rattle.space.specs.Arrays.{row4};
+ghost use Rattle.templates.specs.Tables.{at};
+ghost use Rattle.cells.specs.Rows.{row3, threes, fours, tabled};
+ghost use Rattle.marks.specs.Marks.{key, noted, Marked, notedFacet, splitAt, notedSplit, facesNoted};
+
+fn wide(v: Vertex) -> usize
+    ensures { λ r. ⌜ (r ≡ v .0) × (r < 65536) ⌝ }
+{
+    v.0 as usize
+}
+
+fn square(x: usize) -> usize
+    requires { ⌜ x < 65536 ⌝ }
+    ensures { λ r. ⌜ (r ≡ x * x) × (r < 4294967296) ⌝ }
+{
+    x * x
+}
+
+// The place of three vertices.
+fn key(u: Vertex, v: Vertex, w: Vertex) -> usize
+    ensures { λ r. ⌜ (r ≡ key (u .0) (v .0) (w .0)) × (r < 131072) ⌝ }
+{
+    let a = wide(u);
+    let b = wide(v);
+    let c = wide(w);
+    (12345 * (a + b + c) + (square(a) + square(b) + square(c))) % 131072
+}
+
+// Three vertices may be a facet: where this is false, they are none.
+pub fn is_noted(marks: &[u8], u: Vertex, v: Vertex, w: Vertex) -> bool
+    requires { ⌜ length (now marks) ≡ 131072 ⌝ }
+    ensures { λ r. ⌜ r ≡ noted (now (marks .entry)) (u .0) (v .0) (w .0) ⌝ }
+{
+    let at = key(u, v, w);
+    marks[at] != 0
+}
+
+// ---- the faces of a table
+
+// Both triangles of a diagonal may be facets.
+fn split_noted(marks: &[u8], a: Vertex, b: Vertex, c: Vertex, d: Vertex) -> bool
+    requires { ⌜ length (now marks) ≡ 131072 ⌝ }
+    ensures { λ r. ⌜ r ≡ splitAt (now (marks .entry)) (a .0) (b .0) (c .0) (d .0) ⌝ }
+{
+    if is_noted(marks, a, b, c) {
+        if is_noted(marks, a, c, d) {
+            return true;
+        }
+    }
+    if is_noted(marks, a, b, d) {
+        return is_noted(marks, b, c, d);
+    }
+    false
+}
+
+fn triangle_noted(marks: &[u8], c: &[u16], rows: &[u8], i: usize) -> bool
+    requires { ⌜ (length (now marks) ≡ 131072) × (i < length (now rows) / 3) ⌝ }
+    ensures { λ r. ⌜ r ≡ notedFacet (now (marks .entry)) (at (now (c .entry)) (row3 (now (rows .entry)) i)) ⌝ }
+{
+    let f = corners3(c, rows, i);
+    is_noted(marks, Vertex(f[0]), Vertex(f[1]), Vertex(f[2]))
+}
+
+fn quad_noted(marks: &[u8], c: &[u16], rows: &[u8], i: usize) -> bool
+    requires { ⌜ (length (now marks) ≡ 131072) × (i < length (now rows) / 4) ⌝ }
+    ensures { λ r. ⌜ r ≡ notedSplit (now (marks .entry)) (at (now (c .entry)) (row4 (now (rows .entry)) i)) ⌝ }
+{
+    let q = corners4(c, rows, i);
+    split_noted(
+        marks,
+        Vertex(q[0]),
+        Vertex(q[1]),
+        Vertex(q[2]),
+        Vertex(q[3]),
+    )
+}
+
+fn triangles_noted(marks: &[u8], c: &[u16], rows: &[u8]) -> bool
+    requires { ⌜ length (now marks) ≡ 131072 ⌝ }
+    ensures { λ r. ⌜ r ≡ all (λ f. notedFacet (now (marks .entry)) (at (now (c .entry)) f)) (threes (now (rows .entry))) ⌝ }
+{
+    let k = rows.len() / 3;
+    let mut i = 0;
+    while i < k {
+        if !triangle_noted(marks, c, rows, i) {
+            return false;
+        }
+        i += 1;
+    }
+    true
+}
+
+fn quads_noted(marks: &[u8], c: &[u16], rows: &[u8]) -> bool
+    requires { ⌜ length (now marks) ≡ 131072 ⌝ }
+    ensures { λ r. ⌜ r ≡ all (λ q. notedSplit (now (marks .entry)) (at (now (c .entry)) q)) (fours (now (rows .entry))) ⌝ }
+{
+    let k = rows.len() / 4;
+    let mut i = 0;
+    while i < k {
+        if !quad_noted(marks, c, rows, i) {
+            return false;
+        }
+        i += 1;
+    }
+    true
+}
+
+// Every face of the tables may be one of the mesh.
+pub fn faces_noted(marks: &[u8], c: &[u16], triangles: &[u8], quads: &[u8]) -> bool
+    requires { ⌜ length (now marks) ≡ 131072 ⌝ }
+    ensures { λ r. ⌜ r ≡ facesNoted (now (marks .entry)) (tabled 0 [] (now (triangles .entry)) (now (quads .entry)) []) (now (c .entry)) ⌝ }
+{
+    if !triangles_noted(marks, c, triangles) {
+        return false;
+    }
+    quads_noted(marks, c, quads)
+}
