@@ -3,6 +3,7 @@ use cells::corners3;
 use cells::corners4;
 use space::Vertex;
 ghost use mathlib.Core.Path.{_≡_};
+ghost use mathlib.Core.Bool.{_&&_};
 ghost use Prim.Native.Nat.{_*_, _/_, _<_};
 ghost use mathlib.Core.List.{[]};
 ghost use Rattle.base.specs.Lists.{all};
@@ -46,20 +47,34 @@ pub fn is_noted(marks: &[u8], u: Vertex, v: Vertex, w: Vertex) -> bool
 
 // ---- the faces of a table
 
-// Both triangles of a diagonal may be facets.
+// Two triangles may be facets.
+fn both_noted(
+    marks: &[u8],
+    a: Vertex,
+    b: Vertex,
+    c: Vertex,
+    d: Vertex,
+    e: Vertex,
+    f: Vertex,
+) -> bool
+    requires { ⌜ length (now marks) ≡ 131072 ⌝ }
+    ensures { λ r. ⌜ r ≡ (noted (now (marks .entry)) (a .0) (b .0) (c .0) && noted (now (marks .entry)) (d .0) (e .0) (f .0)) ⌝ }
+{
+    if !is_noted(marks, a, b, c) {
+        return false;
+    }
+    is_noted(marks, d, e, f)
+}
+
+// Both triangles of a diagonal of a quadrilateral may be facets.
 fn split_noted(marks: &[u8], a: Vertex, b: Vertex, c: Vertex, d: Vertex) -> bool
     requires { ⌜ length (now marks) ≡ 131072 ⌝ }
     ensures { λ r. ⌜ r ≡ splitAt (now (marks .entry)) (a .0) (b .0) (c .0) (d .0) ⌝ }
 {
-    if is_noted(marks, a, b, c) {
-        if is_noted(marks, a, c, d) {
-            return true;
-        }
+    if both_noted(marks, a, b, c, a, c, d) {
+        return true;
     }
-    if is_noted(marks, a, b, d) {
-        return is_noted(marks, b, c, d);
-    }
-    false
+    both_noted(marks, a, b, d, b, c, d)
 }
 
 fn triangle_noted(marks: &[u8], c: &[u16], rows: &[u8], i: usize) -> bool
