@@ -84,6 +84,7 @@ module _ {m : Mesh} {n : ℕ} {xs : List ℕ} (d : Tabled m n xs) where
       let z : e - s ≡ length (row v) = omega (arith, rows-up row v) in
       record {
         inside = omega (arith, long, rows-up row v, rows-le row (v + 1) n (omega arith));
+        empty = λ l. absurd (let o : ⊥ = omega arith in o);
         whole = λ l. z;
         entries = λ l i k. ap (λ j. getD xs (n + 1 + j + i) 0) a ∙ ap (λ t. getD t (n + 1 + length (rowsOf row v) + i) 0) split ∙ entry-at row n (d .rest) v i h (omega arith);
       }

@@ -13,8 +13,9 @@ pub record Tabled (m : Mesh) (n : ℕ) (table : List ℕ) : Type 0 where
   pub rest : List ℕ
   pub is : table ≡ tableOf m n ++ rest
 
--- where the row of v stands in the table
+-- where the row of v stands in the table; it is empty where there is no such vertex
 pub record RowOf (m : Mesh) (n : ℕ) (table : List ℕ) (v : ℕ) (r : Row) : Type 0 where
   pub inside : r .from + r .size ≤ length table
+  pub empty : n ≤ v → r .size ≡ 0
   pub whole : v < n → r .size ≡ length (neighboursOf m n v)
   pub entries : v < n → (i : ℕ) → i < r .size → getD table (r .from + i) 0 ≡ getD (neighboursOf m n v) i 0

@@ -12,6 +12,7 @@ use lib.IntN.{ℤ}
 use lib.ListN.{length, getD, set}
 use Rattle.space.specs.Arrays.{meshOf}
 use Rattle.templates.specs.Tables.{templateOf}
+use Rattle.marks.specs.Marks.{Marked}
 use Rattle.ahead.specs.Ahead.{Closes, Least}
 use Rattle.portions.specs.Tuples.{Agree, Skips}
 use Rattle.rule.specs.Rule.{isLeaf}
@@ -75,18 +76,18 @@ hunt-less {asked} {n} {v} {r} b h l = elim (decLt r n) [ yes i ↦ omega (arith,
 
 -- ── one vertex ──
 
-module _ {zs : List ℤ} {ls : List ℕ} {x d : ℕ} {t : List ℕ} {n v : ℕ} where
-  pub stops-fit : {r : Bool} → r ≡ (leb 0 v && fits zs ls x d (set t d v)) → not r ≡ true → Stops (Goes zs ls x d t) n v false
+module _ {zs : List ℤ} {ls ms : List ℕ} {x d : ℕ} {t : List ℕ} {n v : ℕ} where
+  pub stops-fit : {r : Bool} → r ≡ (leb 0 v && fits zs ms x d (set t d v)) → not r ≡ true → Stops (Goes zs ls ms x d t) n v false
   stops-fit {r} e f = record { none = λ _ h g. true≢false (sym (e ∙ rw (le-leb 0 v (omega arith), g .fit)) ∙ not-true r f) }
 
-  pub stops-leap : {l : ℕ} → Least (Follows ls t x) v n l → Stops (Goes zs ls x d t) n v (eqb l v)
+  pub stops-leap : {l : ℕ} → Least (Follows ls t x) v n l → Stops (Goes zs ls ms x d t) n v (eqb l v)
   stops-leap {l} b = record {
     none = λ e h g. let i = b .least v (g .follows) (omega arith) in eqb-false l v e (omega (arith, b .low (omega arith)));
   }
 
 -- ── a listed tuple goes on ──
 
-module _ (zs : List ℤ) (ls ps : List ℕ) (k : ℕ) (t : List ℕ) (d : ℕ) (h : d < templateOf k .corners) (l : d < length t) (z : 1 < d) where
+module _ (zs : List ℤ) (ls ps : List ℕ) {ms : List ℕ} (marked : Marked ls ms) (k : ℕ) (t : List ℕ) (d : ℕ) (h : d < templateOf k .corners) (l : d < length t) (z : 1 < d) where
   abbrev x : ℕ
   x = base k + d
 
@@ -96,15 +97,15 @@ module _ (zs : List ℤ) (ls ps : List ℕ) (k : ℕ) (t : List ℕ) (d : ℕ) (
         let e′ = follows-below (templateOf k) u w d e in
         rw (a u (e′ .0), a w (e′ .1)) (leaf-closes zs ls ps k s leaf u w d h e)
 
-    goes : Goes zs ls (base k + d) d t (getD s d 0)
+    goes : Goes zs ls ms (base k + d) d t (getD s d 0)
     goes =
         let f = ahead-at k d h z in
         record {
-          fit = passes zs ls ps k s leaf d h (set t d (getD s d 0)) (set-agrees t d l s a (getD s d 0) refl);
+          fit = passes zs ls ps k s leaf d h (set t d (getD s d 0)) (set-agrees t d l s a (getD s d 0) refl) marked;
           follows = record { one = closes-here (look x 0) (look x 1) (f .0); two = closes-here (look x 2) (look x 3) (f .1) };
         }
 
-  pub hunt-skips : {n lo r : ℕ} → Least (Goes zs ls (base k + d) d t) lo n r → Skips (isLeaf (meshOf zs ls ps) (templateOf k)) t d n lo r
+  pub hunt-skips : {n lo r : ℕ} → Least (Goes zs ls ms (base k + d) d t) lo n r → Skips (isLeaf (meshOf zs ls ps) (templateOf k)) t d n lo r
   hunt-skips b = record {
     low = b .low;
     miss = λ s leaf a f g. let i = b .least (getD s d 0) (goes s leaf a) f in omega arith;

@@ -20,7 +20,7 @@ use Rattle.cells.specs.Cells.{hasEdges}
 use Rattle.cells.specs.Full.{allowed}
 use Rattle.portions.specs.Tuples.{front}
 use Rattle.rule.specs.Rule.{isLeaf}
-use Rattle.search.specs.Levels.{base, joined}
+use Rattle.search.specs.Levels.{base, joined, also}
 use Rattle.search.proofs.Levels.{isRow, joins, Right, right-at, row-same}
 use Rattle.search.proofs.Prune.{together-bare, leaf-edges, leaf-allowed}
 
@@ -72,35 +72,41 @@ pub record Joined (ls : List ℕ) (s : List ℕ) (p d : ℕ) : Type 0 where
   pub edge : together (meshOf [] ls []) (getD s p 0 ∷ getD s d 0 ∷ []) ≡ true
   pub other : eqb (getD s p 0) (getD s d 0) ≡ false
 
-module _ (zs : List ℤ) (ls ps : List ℕ) (k : ℕ) (s : List ℕ) (leaf : isLeaf (meshOf zs ls ps) (templateOf k) s ≡ true) (d : ℕ) (h : d < templateOf k .corners) (z : d ≡ 0 → ⊥) where
+module _ (zs : List ℤ) (ls ps : List ℕ) (k : ℕ) (s : List ℕ) (leaf : isLeaf (meshOf zs ls ps) (templateOf k) s ≡ true) (d : ℕ) (h : d < templateOf k .corners) where
   abbrev m : Mesh
   m = meshOf zs ls ps
 
   abbrev t : Template
   t = templateOf k
 
-  abbrev p : ℕ
-  p = getD joined (base k + d) 0
+  module _ (p : ℕ) (j : joins (templateOf k) p d ≡ true) where
+    before : p < d
+    unfolding joins
+    before = ltb-true p d (both-left (ltb p d) _ j)
 
-  joins-here : joins t p d ≡ true
-  joins-here = or-either (eqb d 0) (joins t p d) (right-at k d h .ofJoined) (λ e. absurd (true≢false (sym e ∙ ne-eqb d 0 z))) (λ e. e)
+    edge-here : together m (getD s p 0 ∷ getD s d 0 ∷ []) ≡ true
+    unfolding joins hasEdges
+    edge-here =
+        let a = any-at (λ e. isRow 2 t d (p ∷ d ∷ []) e || isRow 2 t d (d ∷ p ∷ []) e) (t .edges) (both-right (ltb p d) _ j) in
+        let e = a .0 in
+        let f = all-at (λ e. together m (at (at s (t .places)) e)) (t .edges) (leaf-edges zs ls ps k s leaf) (a .1) in
+        or-either (isRow 2 t d (p ∷ d ∷ []) e) (isRow 2 t d (d ∷ p ∷ []) e) (a .2)
+        (λ r. ap (together m) (row-same 2 t d (p ∷ d ∷ []) e s s r (λ j l. refl)) ∙ f)
+        (λ r. together-swap m (getD s p 0) (getD s d 0) ∙ ap (together m) (row-same 2 t d (d ∷ p ∷ []) e s s r (λ j l. refl)) ∙ f)
 
-  before : p < d
-  unfolding joins
-  before = ltb-true p d (both-left (ltb p d) _ joins-here)
+    joins-leaf : Joined ls s p d
+    joins-leaf = record {
+      earlier = before;
+      edge = sym (together-bare zs ls ps (getD s p 0 ∷ getD s d 0 ∷ [])) ∙ edge-here;
+      other = ne-eqb (getD s p 0) (getD s d 0) (later-differs zs ls ps k s leaf p d before h);
+    }
 
-  edge-here : together m (getD s p 0 ∷ getD s d 0 ∷ []) ≡ true
-  unfolding joins hasEdges
-  edge-here =
-      let a = any-at (λ e. isRow 2 t d (p ∷ d ∷ []) e || isRow 2 t d (d ∷ p ∷ []) e) (t .edges) (both-right (ltb p d) _ joins-here) in
-      let e = a .0 in
-      let f = all-at (λ e. together m (at (at s (t .places)) e)) (t .edges) (leaf-edges zs ls ps k s leaf) (a .1) in
-      or-either (isRow 2 t d (p ∷ d ∷ []) e) (isRow 2 t d (d ∷ p ∷ []) e) (a .2)
-      (λ r. ap (together m) (row-same 2 t d (p ∷ d ∷ []) e s s r (λ j l. refl)) ∙ f)
-      (λ r. together-swap m (getD s p 0) (getD s d 0) ∙ ap (together m) (row-same 2 t d (d ∷ p ∷ []) e s s r (λ j l. refl)) ∙ f)
+  module _ (z : d ≡ 0 → ⊥) where
+    both : (joins t (getD joined (base k + d) 0) d && joins t (getD also (base k + d) 0) d) ≡ true
+    both = or-either (eqb d 0) (joins t (getD joined (base k + d) 0) d && joins t (getD also (base k + d) 0) d) (right-at k d h .ofJoined) (λ e. absurd (true≢false (sym e ∙ ne-eqb d 0 z))) (λ e. e)
 
-  differs : eqb (getD s p 0) (getD s d 0) ≡ false
-  differs = ne-eqb (getD s p 0) (getD s d 0) (later-differs zs ls ps k s leaf p d before h)
+    pub leaf-joined : Joined ls s (getD joined (base k + d) 0) d
+    leaf-joined = joins-leaf (getD joined (base k + d) 0) (both-left (joins t (getD joined (base k + d) 0) d) _ both)
 
-  pub leaf-joined : Joined ls s (getD joined (base k + d) 0) d
-  leaf-joined = record { earlier = before; edge = sym (together-bare zs ls ps (getD s p 0 ∷ getD s d 0 ∷ [])) ∙ edge-here; other = differs }
+    pub leaf-also : Joined ls s (getD also (base k + d) 0) d
+    leaf-also = joins-leaf (getD also (base k + d) 0) (both-right (joins t (getD joined (base k + d) 0) d) _ both)

@@ -16,7 +16,7 @@ use Rattle.base.proofs.Members.{from-has}
 use Rattle.templates.specs.Tables.{Template, Place, place, hexahedron, prism, pyramid, templateOf, at}
 use Rattle.cells.specs.Rows.{threes, fours}
 use Rattle.portions.specs.Tuples.{Agree}
-use Rattle.search.specs.Levels.{base, triangles, trianglesAt, quads, quadsAt, triples, triplesAt, lesser, joined, part}
+use Rattle.search.specs.Levels.{base, triangles, trianglesAt, quads, quadsAt, triples, triplesAt, lesser, joined, also, part}
 
 -- row r, by places, is the template's row q of w corners, and lies within the places up to d
 unfoldable pub isRow : ℕ → Template → ℕ → List ℕ → List ℕ → Bool
@@ -38,7 +38,7 @@ isRight t x d =
     areRows 3 t d (threes (part triangles trianglesAt x)) (t .triangles)
     && (areRows 4 t d (fours (part quads quadsAt x)) (t .quads)
     && (areRows 4 t d (fours (part triples triplesAt x)) (t .triples)
-    && ((leb (getD lesser x 0) d && equal (getD (t .search) d (place [] []) .below) (upTo (getD lesser x 0))) && (eqb d 0 || joins t (getD joined x 0) d))))
+    && ((leb (getD lesser x 0) d && equal (getD (t .search) d (place [] []) .below) (upTo (getD lesser x 0))) && (eqb d 0 || (joins t (getD joined x 0) d && joins t (getD also x 0) d)))))
 
 unfoldable areRight : Template → ℕ → Bool
 areRight t b = all (λ d. isRight t (b + d) d) (upTo (t .corners))
@@ -76,7 +76,7 @@ pub record Right (t : Template) (x d : ℕ) : Type 0 where
   pub ofTriples : areRows 4 t d (fours (part triples triplesAt x)) (t .triples) ≡ true
   pub ofLesser : getD lesser x 0 ≤ d
   pub ofBelow : getD (t .search) d (place [] []) .below ≡ upTo (getD lesser x 0)
-  pub ofJoined : (eqb d 0 || joins t (getD joined x 0) d) ≡ true
+  pub ofJoined : (eqb d 0 || (joins t (getD joined x 0) d && joins t (getD also x 0) d)) ≡ true
 
 pub right-at : (k d : ℕ) → d < templateOf k .corners → Right (templateOf k) (base k + d) d
 unfolding isRight areRight
@@ -108,7 +108,7 @@ map-map f g [] = refl
 map-map f g (x ∷ xs) = ap (λ l. f (g x) ∷ l) (map-map f g xs)
 
 -- the vertices of a row, by the places of the row
-at-row : (c q : List ℕ) (w : ℕ) → length q ≡ w → at c q ≡ map (λ i. getD c (getD q i 0) 0) (upTo w)
+pub at-row : (c q : List ℕ) (w : ℕ) → length q ≡ w → at c q ≡ map (λ i. getD c (getD q i 0) 0) (upTo w)
 at-row c q w e =
     ap (at c) (sym (listed 0 q)) ∙ map-map (λ k. getD c k 0) (λ i. getD q i 0) (upTo (length q)) ∙ ap (λ k. map (λ i. getD c (getD q i 0) 0) (upTo k)) e
 
@@ -118,13 +118,16 @@ at-place s (p ∷ ps) zero h = refl
 at-place s (p ∷ ps) (suc k) h = at-place s ps k (omega arith)
 at-place s [] k h = absurd (omega arith)
 
+pub row-sizes : (w : ℕ) (t : Template) (d : ℕ) (r q : List ℕ) → isRow w t d r q ≡ true → (length r ≡ w) × (length q ≡ w)
+unfolding isRow
+row-sizes w t d r q e =
+    let a = both-left (eqb (length r) w && eqb (length q) w) _ e in
+    (eqb-true _ _ (both-left (eqb (length r) w) _ a), eqb-true _ _ (both-right (eqb (length r) w) _ a))
+
 -- a tuple in search order that agrees with s up to place d, and s in letter order, have the same vertices at such rows
 module _ (w : ℕ) (t : Template) (d : ℕ) (r q : List ℕ) (u s : List ℕ) (e : isRow w t d r q ≡ true) (g : Agree (d + 1) u s) where
   sizes : (length r ≡ w) × (length q ≡ w)
-  unfolding isRow
-  sizes =
-      let a = both-left (eqb (length r) w && eqb (length q) w) _ e in
-      (eqb-true _ _ (both-left (eqb (length r) w) _ a), eqb-true _ _ (both-right (eqb (length r) w) _ a))
+  sizes = row-sizes w t d r q e
 
   pub vertex-same : (i : ℕ) → i < w → getD u (getD r i 0) 0 ≡ getD (at s (t .places)) (getD q i 0) 0
   unfolding isRow
@@ -143,9 +146,9 @@ module _ (w : ℕ) (t : Template) (d : ℕ) (r q : List ℕ) (u s : List ℕ) (e
       ∙ sym (at-row (at s (t .places)) q w (sizes .1))
 
 -- a test of the template's rows, by their vertices, passes at the level's
-pub rows-pass : (p p′ : List ℕ → Bool) (w : ℕ) (t : Template) (d : ℕ) (rs qs : List (List ℕ)) → areRows w t d rs qs ≡ true → all p qs ≡ true → ((r q : List ℕ) → isRow w t d r q ≡ true → p q ≡ p′ r) → all p′ rs ≡ true
+pub rows-pass : (p p′ : List ℕ → Bool) (w : ℕ) (t : Template) (d : ℕ) (rs qs : List (List ℕ)) → areRows w t d rs qs ≡ true → all p qs ≡ true → ((r q : List ℕ) → isRow w t d r q ≡ true → p q ≡ true → p′ r ≡ true) → all p′ rs ≡ true
 unfolding areRows
 rows-pass p p′ w t d [] qs e a f = refl
 rows-pass p p′ w t d (r ∷ rs) qs e a f =
     let m = any-at (isRow w t d r) qs (both-left (any (isRow w t d r) qs) _ e) in
-    rw (sym (f r (m .0) (m .2)) ∙ all-at p qs a (m .1), rows-pass p p′ w t d rs qs (both-right (any (isRow w t d r) qs) _ e) a f)
+    rw (f r (m .0) (m .2) (all-at p qs a (m .1)), rows-pass p p′ w t d rs qs (both-right (any (isRow w t d r) qs) _ e) a f)

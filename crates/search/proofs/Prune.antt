@@ -21,12 +21,13 @@ use Rattle.templates.specs.Tables.{Template, Place, place, hexahedron, prism, p
 use Rattle.cells.specs.Cells.{first, second, boxAt, isTuple, hasEdges, isFacet, isSplit, hasFaces, isSound, isFilled, isOnePart, isCell}
 use Rattle.cells.specs.Full.{allowed}
 use Rattle.cells.specs.Rows.{threes, fours}
+use Rattle.marks.specs.Marks.{noted, Marked, splitAt, notedFacet, notedSplit, facesNoted}
 use Rattle.portions.specs.Tuples.{front, Agree}
 use Rattle.rule.specs.Rule.{goesOn, isLeaf}
 use Rattle.rule.proofs.OneKind.{Flat, flat-hexahedron, flat-prism, flat-pyramid, leaf-goes}
 use Rattle.search.specs.Levels.{base, triangles, trianglesAt, quads, quadsAt, triples, triplesAt, lesser, joined, part, levelOf}
 use Rattle.search.specs.Prune.{comesAfter, fits}
-use Rattle.search.proofs.Levels.{isRow, Right, right-at, run-same, vertex-same, row-same, rows-pass}
+use Rattle.search.proofs.Levels.{isRow, Right, right-at, run-same, at-row, row-sizes, vertex-same, row-same, rows-pass}
 
 -- ── least form, place by place ──
 
@@ -84,6 +85,24 @@ together-bare zs ls ps vs =
 abbrev splitBy : (List ℕ → Bool) → ℕ → ℕ → ℕ → ℕ → Bool
 splitBy b w x y z =
     all b ((w ∷ x ∷ y ∷ []) ∷ (w ∷ y ∷ z ∷ []) ∷ []) || all b ((w ∷ x ∷ z ∷ []) ∷ (x ∷ y ∷ z ∷ []) ∷ [])
+
+-- ── the marks ──
+
+or-imp : (a b c d : Bool) → (a ≡ true → c ≡ true) → (b ≡ true → d ≡ true) → (a || b) ≡ true → (c || d) ≡ true
+or-imp true b c d f g e = rw (f refl)
+or-imp false b true d f g e = refl
+or-imp false b false d f g e = g e
+
+module _ {ls ms : List ℕ} (g : Marked ls ms) where
+  both-noted : (u v w x y z : ℕ) → all (together (meshOf [] ls [])) ((u ∷ v ∷ w ∷ []) ∷ (x ∷ y ∷ z ∷ []) ∷ []) ≡ true → (noted ms u v w && noted ms x y z) ≡ true
+  both-noted u v w x y z e =
+      let a = both-left (together (meshOf [] ls []) (u ∷ v ∷ w ∷ [])) _ e in
+      let b = both-left (together (meshOf [] ls []) (x ∷ y ∷ z ∷ [])) _ (both-right (together (meshOf [] ls []) (u ∷ v ∷ w ∷ [])) _ e) in
+      rw (g .facets u v w a, g .facets x y z b)
+
+  split-noted : (w x y z : ℕ) → splitBy (together (meshOf [] ls [])) w x y z ≡ true → splitAt ms w x y z ≡ true
+  split-noted w x y z e =
+      or-imp (all (together (meshOf [] ls [])) ((w ∷ x ∷ y ∷ []) ∷ (w ∷ y ∷ z ∷ []) ∷ [])) (all (together (meshOf [] ls [])) ((w ∷ x ∷ z ∷ []) ∷ (x ∷ y ∷ z ∷ []) ∷ [])) (noted ms w x y && noted ms w y z) (noted ms w x z && noted ms x y z) (both-noted w x y w y z) (both-noted w x z x y z) e
 
 -- ── a listed tuple ──
 
@@ -162,29 +181,35 @@ module _ (zs : List ℤ) (ls ps : List ℕ) (k : ℕ) (s : List ℕ) (leaf : isL
       unfolding isSound boxAt
       sound-here =
           rows-pass (λ q. isAbove0 (boxAt m (at c q))) (λ r. isAbove0 (boxAt (meshOf zs [] []) (at u r))) 4 t d (fours (part triples triplesAt (base k + d))) (t .triples) (right .ofTriples) sound
-          (λ r q e. ap (λ vs. isAbove0 (boxAt m vs)) (sym (row-same 4 t d r q u s e g)) ∙ same-box (at u r))
+          (λ r q e f. sym (same-box (at u r)) ∙ ap (λ vs. isAbove0 (boxAt m vs)) (row-same 4 t d r q u s e g) ∙ f)
         where
           same-box : (vs : List ℕ) → isAbove0 (boxAt (meshOf zs ls ps) vs) ≡ isAbove0 (boxAt (meshOf zs [] []) vs)
           same-box vs = refl
 
-      facets : all (isFacet (meshOf [] ls []) (levelOf (base k + d)) u) (threes (part triangles trianglesAt (base k + d))) ≡ true
-      unfolding hasFaces isFacet
-      facets =
-          rows-pass (isFacet m t c) (isFacet (meshOf [] ls []) (levelOf (base k + d)) u) 3 t d (threes (part triangles trianglesAt (base k + d))) (t .triangles) (right .ofTriangles) (both-left (all (isFacet m t c) (t .triangles)) _ faces)
-          (λ r q e. ap (together m) (sym (row-same 3 t d r q u s e g)) ∙ together-bare zs ls ps (at u r))
+      module _ {ms : List ℕ} (marked : Marked ls ms) where
+        facets : all (λ f. notedFacet ms (at u f)) (threes (part triangles trianglesAt (base k + d))) ≡ true
+        unfolding hasFaces isFacet
+        facets =
+            rows-pass (isFacet m t c) (λ f. notedFacet ms (at u f)) 3 t d (threes (part triangles trianglesAt (base k + d))) (t .triangles) (right .ofTriangles) (both-left (all (isFacet m t c) (t .triangles)) _ faces)
+            (λ r q e f.
+            let o = at-row u r 3 (row-sizes 3 t d r q e .0) in
+            ap (notedFacet ms) o
+            ∙ marked .facets (getD u (getD r 0 0) 0) (getD u (getD r 1 0) 0) (getD u (getD r 2 0) 0) (ap (together (meshOf [] ls [])) (sym o) ∙ sym (together-bare zs ls ps (at u r)) ∙ ap (together m) (row-same 3 t d r q u s e g) ∙ f))
 
-      splits : all (isSplit (meshOf [] ls []) (levelOf (base k + d)) u) (fours (part quads quadsAt (base k + d))) ≡ true
-      unfolding hasFaces isSplit isFacet first second
-      splits =
-          rows-pass (isSplit m t c) (isSplit (meshOf [] ls []) (levelOf (base k + d)) u) 4 t d (fours (part quads quadsAt (base k + d))) (t .quads) (right .ofQuads) (both-right (all (isFacet m t c) (t .triangles)) _ faces)
-          (λ r q e. same-split r q (vertex-same 4 t d r q u s e g))
-        where
-          same-split : (r q : List ℕ) → ((i : ℕ) → i < 4 → getD u (getD r i 0) 0 ≡ getD c (getD q i 0) 0) → isSplit (meshOf zs ls ps) (templateOf k) c q ≡ isSplit (meshOf [] ls []) (levelOf (base k + d)) u r
-          same-split r q f =
-              rw (sym (f 0 (omega arith)), sym (f 1 (omega arith)), sym (f 2 (omega arith)), sym (f 3 (omega arith)))
-              (ap (λ b. splitBy b (getD u (getD r 0 0) 0) (getD u (getD r 1 0) 0) (getD u (getD r 2 0) 0) (getD u (getD r 3 0) 0)) (fun-ext (together-bare zs ls ps)))
+        splits : all (λ q. notedSplit ms (at u q)) (fours (part quads quadsAt (base k + d))) ≡ true
+        unfolding hasFaces isSplit isFacet first second
+        splits =
+            rows-pass (isSplit m t c) (λ q. notedSplit ms (at u q)) 4 t d (fours (part quads quadsAt (base k + d))) (t .quads) (right .ofQuads) (both-right (all (isFacet m t c) (t .triangles)) _ faces)
+            (λ r q e f.
+            ap (notedSplit ms) (at-row u r 4 (row-sizes 4 t d r q e .0))
+            ∙ split-noted marked (getD u (getD r 0 0) 0) (getD u (getD r 1 0) 0) (getD u (getD r 2 0) 0) (getD u (getD r 3 0) 0) (same-split r q (vertex-same 4 t d r q u s e g) ∙ f))
+          where
+            same-split : (r q : List ℕ) → ((i : ℕ) → i < 4 → getD u (getD r i 0) 0 ≡ getD c (getD q i 0) 0) → splitBy (together (meshOf [] ls [])) (getD u (getD r 0 0) 0) (getD u (getD r 1 0) 0) (getD u (getD r 2 0) 0) (getD u (getD r 3 0) 0) ≡ isSplit (meshOf zs ls ps) (templateOf k) c q
+            same-split r q f =
+                sym (rw (sym (f 0 (omega arith)), sym (f 1 (omega arith)), sym (f 2 (omega arith)), sym (f 3 (omega arith)))
+                (ap (λ b. splitBy b (getD u (getD r 0 0) 0) (getD u (getD r 1 0) 0) (getD u (getD r 2 0) 0) (getD u (getD r 3 0) 0)) (fun-ext (together-bare zs ls ps))))
 
-      -- the test of level d, of any tuple that begins as this one does
-      pub passes : fits zs ls (base k + d) d u ≡ true
-      unfolding fits hasFaces
-      passes = rw (comes, sound-here, facets, splits)
+        -- the test of level d, of any tuple that begins as this one does
+        pub passes : fits zs ms (base k + d) d u ≡ true
+        unfolding fits facesNoted
+        passes = rw (comes, sound-here, facets, splits)

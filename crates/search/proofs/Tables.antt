@@ -12,7 +12,7 @@ use Rattle.base.specs.Lists.{all, upTo}
 use Rattle.base.proofs.Lists.{both-left, both-right, all-at}
 use Rattle.base.proofs.Members.{from-has}
 use Rattle.templates.specs.Tables.{hexahedron, prism, pyramid, templateOf}
-use Rattle.search.specs.Levels.{base, triangles, trianglesAt, quads, quadsAt, triples, triplesAt, lesser, joined}
+use Rattle.search.specs.Levels.{base, triangles, trianglesAt, quads, quadsAt, triples, triplesAt, lesser, joined, also}
 use Rattle.search.specs.Ready.{Cut}
 use Rattle.search.specs.Ahead.{ahead, look}
 
@@ -26,6 +26,9 @@ lesser-few x = entry-below 3 lesser (omega arith) refl x
 
 pub joined-few : (x : ℕ) → getD joined x 0 < 8
 joined-few x = entry-below 8 joined (omega arith) refl x
+
+pub also-few : (x : ℕ) → getD also x 0 < 8
+also-few x = entry-below 8 also (omega arith) refl x
 
 pub look-few : (x i : ℕ) → look x i < 8
 look-few x i = entry-below 8 ahead (omega arith) refl (4 * x + i)

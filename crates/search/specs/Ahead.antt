@@ -26,8 +26,8 @@ pub record Follows (ls t : List ℕ) (x v : ℕ) : Type 0 where
   pub two : Closes ls (getD t (look x 2) 0) (getD t (look x 3) 0) v
 
 -- and the tuple passes the test of the level with v at place d
-pub record Goes (zs : List ℤ) (ls : List ℕ) (x d : ℕ) (t : List ℕ) (v : ℕ) : Type 0 where
-  pub fit : fits zs ls x d (set t d v) ≡ true
+pub record Goes (zs : List ℤ) (ls ms : List ℕ) (x d : ℕ) (t : List ℕ) (v : ℕ) : Type 0 where
+  pub fit : fits zs ms x d (set t d v) ≡ true
   pub follows : Follows ls t x v
 
 -- where r is false, v is not one of n vertices that is asked for

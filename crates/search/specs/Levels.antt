@@ -44,6 +44,10 @@ lesser = 0 ∷ 1 ∷ 2 ∷ 2 ∷ 1 ∷ 1 ∷ 1 ∷ 1 ∷ 0 ∷ 1 ∷ 1 ∷ 1 ∷
 abbrev pub joined : List ℕ
 joined = 0 ∷ 0 ∷ 0 ∷ 0 ∷ 1 ∷ 1 ∷ 2 ∷ 4 ∷ 0 ∷ 0 ∷ 0 ∷ 0 ∷ 1 ∷ 2 ∷ 0 ∷ 0 ∷ 1 ∷ 0 ∷ 0 ∷ []
 
+-- and another one, or the same where there is no other
+abbrev pub also : List ℕ
+also = 0 ∷ 0 ∷ 0 ∷ 0 ∷ 2 ∷ 3 ∷ 3 ∷ 5 ∷ 0 ∷ 0 ∷ 1 ∷ 0 ∷ 3 ∷ 3 ∷ 0 ∷ 0 ∷ 1 ∷ 2 ∷ 1 ∷ []
+
 -- of such a table, the part that belongs to row x
 abbrev pub part : List ℕ → List ℕ → ℕ → List ℕ
 part rows starts x = take (getD starts (x + 1) 0 - getD starts x 0) (drop (getD starts x 0) rows)

@@ -8,7 +8,8 @@ use lib.IntN.{ℤ}
 use lib.ListN.{getD}
 use Rattle.base.specs.Lists.{all, upTo, isIn}
 use Rattle.space.specs.Arrays.{meshOf}
-use Rattle.cells.specs.Cells.{hasFaces, isSound}
+use Rattle.cells.specs.Cells.{isSound}
+use Rattle.marks.specs.Marks.{facesNoted}
 use Rattle.portions.specs.Tuples.{front}
 use Rattle.search.specs.Levels.{lesser, levelOf}
 
@@ -16,7 +17,6 @@ use Rattle.search.specs.Levels.{lesser, levelOf}
 unfoldable pub comesAfter : ℕ → ℕ → List ℕ → Bool
 comesAfter x d s = not (isIn (getD s d 0) (front d s)) && all (λ k. ltb (getD s k 0) (getD s d 0)) (upTo (getD lesser x 0))
 
--- and of the faces and the corner triples that it completes each passes its test; x is the row of the level's tables
+-- and of the faces and the corner triples that it completes each passes its test, the faces by their marks; x is the row of the level's tables
 unfoldable pub fits : List ℤ → List ℕ → ℕ → ℕ → List ℕ → Bool
-fits zs ls x d s =
-    comesAfter x d s && isSound (meshOf zs [] []) (levelOf x) s && hasFaces (meshOf [] ls []) (levelOf x) s
+fits zs ms x d s = comesAfter x d s && facesNoted ms (levelOf x) s && isSound (meshOf zs [] []) (levelOf x) s

@@ -1,8 +1,9 @@
 // The search for the next cell of a kind: the least tuple after a tuple that is a cell in least form, by an odometer over one tuple with a level.
 // A tuple is kept in search order; x is the row of a place in the tables of the levels.
 use ahead::beyond;
-use cells::has_faces;
 use cells::is_sound;
+use marks::faces_noted;
+use neighbours::Row;
 use neighbours::row_of;
 use space::Vertex;
 use templates::is_in;
@@ -12,22 +13,23 @@ ghost use mathlib.Core.Logic.{_⊎_};
 ghost use mathlib.Core.Bool.{true, _&&_};
 ghost use mathlib.Core.List.{List, []};
 ghost use Prim.Native.Nat.{ℕ, _+_, _/_, _<_, _≤_};
-ghost use lib.Dec.{leb, ltb};
+ghost use lib.Dec.{eqb, leb, ltb};
 ghost use lib.ListN.{length, getD, set, take};
 ghost use Rattle.base.specs.Lists.{all, upTo};
 ghost use Rattle.space.specs.Arrays.{meshOf, Close};
 ghost use Rattle.around.specs.Index.{Indexed};
 ghost use Rattle.templates.specs.Tables.{templateOf, at};
 ghost use Rattle.templates.specs.Least.{isLeast};
-ghost use Rattle.cells.specs.Cells.{isSound, hasFaces};
+ghost use Rattle.cells.specs.Cells.{isSound};
+ghost use Rattle.marks.specs.Marks.{Marked, facesNoted};
 ghost use Rattle.cells.specs.Rows.{tabled};
 ghost use Rattle.verdict.specs.Judged.{Arrays};
 ghost use Rattle.portions.specs.Tuples.{Skips, LeastAfter};
 ghost use Rattle.rule.specs.Rule.{isLeaf};
 ghost use Rattle.ahead.specs.Ahead.{Least};
-ghost use Rattle.search.specs.Levels.{base, lesser, joined, part, levelOf};
+ghost use Rattle.search.specs.Levels.{base, lesser, joined, also, part, levelOf};
 ghost use Rattle.search.specs.Prune.{comesAfter, fits};
-ghost use Rattle.search.specs.Ready.{Ready, Cut, Scanned, Begins};
+ghost use Rattle.search.specs.Ready.{Ready, Cut, Rises, entriesOf, Served, Met, Begins};
 ghost use Rattle.search.specs.Ahead.{look, Follows, Goes, Stops};
 
 // The tuple that was found, in search order.
@@ -208,6 +210,8 @@ const LESSER: [usize; 19] = [0, 1, 2, 2, 1, 1, 1, 1, 0, 1, 1, 1, 1, 1, 0, 1, 1, 
 
 const JOINED: [usize; 19] = [0, 0, 0, 0, 1, 1, 2, 4, 0, 0, 0, 0, 1, 2, 0, 0, 1, 0, 0];
 
+const ALSO: [usize; 19] = [0, 0, 0, 0, 2, 3, 3, 5, 0, 0, 1, 0, 3, 3, 0, 0, 1, 2, 1];
+
 const AHEAD: [usize; 76] = [
     0,
     0,
@@ -372,12 +376,9 @@ fn sound_part(coords: &[i64], s: &[u16], rows: &[u8], starts: &[u8], x: usize) -
     is_sound(coords, s, &rows[from..end])
 }
 
-// The faces of a part of the tables are faces of the mesh.
+// The faces of a part of the tables may be faces of the mesh.
 fn faces_part(
-    labels: &[u16],
-    n: usize,
-    offsets: &[u16],
-    entries: &[u16],
+    marks: &[u8],
     s: &[u16],
     triangles: &[u8],
     tstarts: &[u8],
@@ -385,23 +386,15 @@ fn faces_part(
     qstarts: &[u8],
     x: usize,
 ) -> bool
-    requires { ⌜ Indexed (now labels) n (now offsets) (now entries) ⌝ }
+    requires { ⌜ length (now marks) ≡ 131072 ⌝ }
     requires { ⌜ Cut (now triangles) (now tstarts) x × Cut (now quads) (now qstarts) x ⌝ }
-    ensures { λ r. ⌜ r ≡ hasFaces (meshOf [] (now (labels .entry)) []) (tabled 0 [] (part (now (triangles .entry)) (now (tstarts .entry)) x) (part (now (quads .entry)) (now (qstarts .entry)) x) []) (now (s .entry)) ⌝ }
+    ensures { λ r. ⌜ r ≡ facesNoted (now (marks .entry)) (tabled 0 [] (part (now (triangles .entry)) (now (tstarts .entry)) x) (part (now (quads .entry)) (now (qstarts .entry)) x) []) (now (s .entry)) ⌝ }
 {
     let from = start_of(tstarts, x);
     let end = start_of(tstarts, x + 1);
     let low = start_of(qstarts, x);
     let high = start_of(qstarts, x + 1);
-    has_faces(
-        labels,
-        n,
-        offsets,
-        entries,
-        s,
-        &triangles[from..end],
-        &quads[low..high],
-    )
+    faces_noted(marks, s, &triangles[from..end], &quads[low..high])
 }
 
 fn sound_at(coords: &[i64], s: &[u16], x: usize) -> bool
@@ -411,64 +404,41 @@ fn sound_at(coords: &[i64], s: &[u16], x: usize) -> bool
     sound_part(coords, s, &TRIPLES, &TRIPLES_AT, x)
 }
 
-fn faces_at(labels: &[u16], n: usize, offsets: &[u16], entries: &[u16], s: &[u16], x: usize) -> bool
-    requires { ⌜ Indexed (now labels) n (now offsets) (now entries) × (x < 19) ⌝ }
-    ensures { λ r. ⌜ r ≡ hasFaces (meshOf [] (now (labels .entry)) []) (levelOf x) (now (s .entry)) ⌝ }
+fn faces_at(marks: &[u8], s: &[u16], x: usize) -> bool
+    requires { ⌜ (length (now marks) ≡ 131072) × (x < 19) ⌝ }
+    ensures { λ r. ⌜ r ≡ facesNoted (now (marks .entry)) (levelOf x) (now (s .entry)) ⌝ }
 {
-    faces_part(
-        labels,
-        n,
-        offsets,
-        entries,
-        s,
-        &TRIANGLES,
-        &TRIANGLES_AT,
-        &QUADS,
-        &QUADS_AT,
-        x,
-    )
+    faces_part(marks, s, &TRIANGLES, &TRIANGLES_AT, &QUADS, &QUADS_AT, x)
 }
 
 // The tuple passes the test of the level of place d: the cheap parts first.
-fn passes(
-    coords: &[i64],
-    labels: &[u16],
-    n: usize,
-    offsets: &[u16],
-    entries: &[u16],
-    s: &[u16],
-    x: usize,
-    d: usize,
-) -> bool
-    requires { ⌜ Close (now coords) × Indexed (now labels) n (now offsets) (now entries) ⌝ }
+fn passes(coords: &[i64], marks: &[u8], s: &[u16], x: usize, d: usize) -> bool
+    requires { ⌜ Close (now coords) × (length (now marks) ≡ 131072) ⌝ }
     requires { ⌜ (x < 19) × ((d < length (now s)) × (2 ≤ length (now s))) ⌝ }
-    ensures { λ r. ⌜ r ≡ fits (now (coords .entry)) (now (labels .entry)) x d (now (s .entry)) ⌝ }
+    ensures { λ r. ⌜ r ≡ fits (now (coords .entry)) (now (marks .entry)) x d (now (s .entry)) ⌝ }
 {
     if !comes_after(s, x, d) {
         return false;
     }
-    if !sound_at(coords, s, x) {
+    if !faces_at(marks, s, x) {
         return false;
     }
-    faces_at(labels, n, offsets, entries, s, x)
+    sound_at(coords, s, x)
 }
 
 // v is from lo on, and the tuple passes with it at place d.
 fn tries(
     coords: &[i64],
-    labels: &[u16],
-    n: usize,
-    offsets: &[u16],
-    entries: &[u16],
+    marks: &[u8],
     t: [u16; 8],
     x: usize,
     d: usize,
     lo: usize,
     v: Vertex,
 ) -> bool
-    requires { ⌜ Close (now coords) × Indexed (now labels) n (now offsets) (now entries) ⌝ }
+    requires { ⌜ Close (now coords) × (length (now marks) ≡ 131072) ⌝ }
     requires { ⌜ (x < 19) × (d < 8) ⌝ }
-    ensures { λ r. ⌜ r ≡ (leb lo (v .0) && fits (now (coords .entry)) (now (labels .entry)) x d (set t d (v .0))) ⌝ }
+    ensures { λ r. ⌜ r ≡ (leb lo (v .0) && fits (now (coords .entry)) (now (marks .entry)) x d (set t d (v .0))) ⌝ }
 {
     let y = v.0;
     if wide(y) < lo {
@@ -476,37 +446,99 @@ fn tries(
     }
     let mut s = t;
     s[d] = y;
-    passes(coords, labels, n, offsets, entries, &s, x, d)
+    passes(coords, marks, &s, x, d)
 }
 
 // ---- the next candidate at a place
 
-// The first of a row from lo on with which the tuple passes, or n.
-fn scan(
+// The two are one vertex, from lo on, with which the tuple passes.
+fn agree(
     coords: &[i64],
-    labels: &[u16],
+    marks: &[u8],
+    t: [u16; 8],
+    x: usize,
+    d: usize,
+    lo: usize,
+    v: Vertex,
+    w: Vertex,
+) -> bool
+    requires { ⌜ Close (now coords) × (length (now marks) ≡ 131072) ⌝ }
+    requires { ⌜ (x < 19) × (d < 8) ⌝ }
+    ensures { λ r. ⌜ r ≡ (eqb (v .0) (w .0) && (leb lo (v .0) && fits (now (coords .entry)) (now (marks .entry)) x d (set t d (v .0)))) ⌝ }
+{
+    if v.0 != w.0 {
+        return false;
+    }
+    tries(coords, marks, t, x, d, lo, v)
+}
+
+// The first vertex from lo on that stands in both rows and with which the tuple passes, or n.
+fn meet(
+    coords: &[i64],
+    marks: &[u8],
     n: usize,
-    offsets: &[u16],
-    entries: &[u16],
-    row: &[u16],
+    one: &[u16],
+    two: &[u16],
     t: [u16; 8],
     x: usize,
     d: usize,
     lo: usize,
 ) -> usize
-    requires { ⌜ Close (now coords) × Indexed (now labels) n (now offsets) (now entries) ⌝ }
-    requires { ⌜ (x < 19) × (d < 8) ⌝ }
-    ensures { λ r. ⌜ Scanned (λ v. fits (now (coords .entry)) (now (labels .entry)) x d (set t d v)) (now (row .entry)) n lo r ⌝ }
+    requires { ⌜ Close (now coords) × (length (now marks) ≡ 131072) ⌝ }
+    requires { ⌜ ((x < 19) × (d < 8)) × (Rises (now one) × Rises (now two)) ⌝ }
+    ensures { λ r. ⌜ Met (λ v. fits (now (coords .entry)) (now (marks .entry)) x d (set t d v)) (now (one .entry)) (now (two .entry)) n lo r ⌝ }
 {
     let mut i = 0;
-    while i < row.len() {
-        let v = row[i];
-        if tries(coords, labels, n, offsets, entries, t, x, d, lo, Vertex(v)) {
-            return wide(v);
+    let mut j = 0;
+    while i < one.len() {
+        if two.len() <= j {
+            return n;
         }
-        i += 1;
+        let v = one[i];
+        let w = two[j];
+        if w < v {
+            j += 1;
+        } else if agree(coords, marks, t, x, d, lo, Vertex(v), Vertex(w)) {
+            return wide(v);
+        } else {
+            i += 1;
+        }
     }
     n
+}
+
+// The same for two rows of the table.
+fn meet_rows(
+    coords: &[i64],
+    marks: &[u8],
+    n: usize,
+    table: &[u16],
+    one: Row,
+    two: Row,
+    t: [u16; 8],
+    x: usize,
+    d: usize,
+    lo: usize,
+) -> usize
+    requires { ⌜ (Close (now coords) × (length (now marks) ≡ 131072)) × ((x < 19) × (d < 8)) ⌝ }
+    requires { ⌜ Served (now table) one × Served (now table) two ⌝ }
+    ensures { λ r. ⌜ Met (λ v. fits (now (coords .entry)) (now (marks .entry)) x d (set t d v)) (entriesOf (now (table .entry)) one) (entriesOf (now (table .entry)) two) n lo r ⌝ }
+{
+    let from = one.from;
+    let end = from + one.size;
+    let low = two.from;
+    let high = low + two.size;
+    meet(
+        coords,
+        marks,
+        n,
+        &table[from..end],
+        &table[low..high],
+        t,
+        x,
+        d,
+        lo,
+    )
 }
 
 fn joined_of(x: usize) -> usize
@@ -514,6 +546,33 @@ fn joined_of(x: usize) -> usize
     ensures { λ r. ⌜ (r ≡ getD joined x 0) × (r < 8) ⌝ }
 {
     JOINED[x]
+}
+
+fn also_of(x: usize) -> usize
+    requires { ⌜ x < 19 ⌝ }
+    ensures { λ r. ⌜ (r ≡ getD also x 0) × (r < 8) ⌝ }
+{
+    ALSO[x]
+}
+
+// Of two rows the one with fewer neighbours.
+fn fewer(r: Row, q: Row) -> Row
+    ensures { λ a. ⌜ (a ≡ r) ⊎ (a ≡ q) ⌝ }
+{
+    if q.size < r.size { q } else { r }
+}
+
+// The other one, unless it is so long that going through it costs more than it tells.
+fn partner(r: Row, q: Row) -> Row
+    ensures { λ a. ⌜ (a ≡ r) ⊎ (a ≡ q) ⌝ }
+{
+    if 96 < r.size {
+        return q;
+    }
+    if 96 < q.size {
+        return r;
+    }
+    if q.size < r.size { r } else { q }
 }
 
 // ---- looking ahead
@@ -554,30 +613,20 @@ fn goes_on(
     n: usize,
     offsets: &[u16],
     entries: &[u16],
+    marks: &[u8],
     t: [u16; 8],
     x: usize,
     d: usize,
     v: usize,
 ) -> bool
-    requires { ⌜ (Close (now coords) × Indexed (now labels) n (now offsets) (now entries)) × (n ≤ 512) ⌝ }
+    requires { ⌜ (Close (now coords) × Indexed (now labels) n (now offsets) (now entries)) × ((n ≤ 512) × Marked (now labels) (now marks)) ⌝ }
     requires { ⌜ (x < 19) × (d < 8) ⌝ }
-    ensures { λ r. ⌜ Stops (Goes (now (coords .entry)) (now (labels .entry)) x d t) n v r ⌝ }
+    ensures { λ r. ⌜ Stops (Goes (now (coords .entry)) (now (labels .entry)) (now (marks .entry)) x d t) n v r ⌝ }
 {
     if n <= v {
         return false;
     }
-    if !tries(
-        coords,
-        labels,
-        n,
-        offsets,
-        entries,
-        t,
-        x,
-        d,
-        0,
-        Vertex(v as u16),
-    ) {
+    if !tries(coords, marks, t, x, d, 0, Vertex(v as u16)) {
         return false;
     }
     leap(labels, n, offsets, entries, t, x, v) == v
@@ -590,19 +639,20 @@ fn hunt(
     n: usize,
     offsets: &[u16],
     entries: &[u16],
+    marks: &[u8],
     t: [u16; 8],
     x: usize,
     d: usize,
     lo: usize,
 ) -> usize
-    requires { ⌜ (Close (now coords) × Indexed (now labels) n (now offsets) (now entries)) × (n ≤ 512) ⌝ }
+    requires { ⌜ (Close (now coords) × Indexed (now labels) n (now offsets) (now entries)) × ((n ≤ 512) × Marked (now labels) (now marks)) ⌝ }
     requires { ⌜ (x < 19) × (d < 8) ⌝ }
-    ensures { λ r. ⌜ Least (Goes (now (coords .entry)) (now (labels .entry)) x d t) lo n r ⌝ }
+    ensures { λ r. ⌜ Least (Goes (now (coords .entry)) (now (labels .entry)) (now (marks .entry)) x d t) lo n r ⌝ }
 {
     let mut v = lo;
     while v < n {
         let r = leap(labels, n, offsets, entries, t, x, v);
-        if goes_on(coords, labels, n, offsets, entries, t, x, d, r) {
+        if goes_on(coords, labels, n, offsets, entries, marks, t, x, d, r) {
             return r;
         }
         v = r + 1;
@@ -624,13 +674,14 @@ fn seek(
     n: usize,
     offsets: &[u16],
     entries: &[u16],
+    marks: &[u8],
     table: &[u16],
     kind: u16,
     t: [u16; 8],
     d: usize,
     lo: usize,
 ) -> usize
-    requires { ⌜ Ready (now coords) (now labels) n (now offsets) (now entries) (now table) ⌝ }
+    requires { ⌜ Ready (now coords) (now labels) n (now offsets) (now entries) (now marks) (now table) ⌝ }
     requires { ⌜ d < templateOf kind .corners ⌝ }
     ensures { λ r. ⌜ ((ps : List ℕ) → Skips (isLeaf (meshOf (now (coords .entry)) (now (labels .entry)) ps) (templateOf kind)) t d n lo r) ⌝ }
 {
@@ -639,24 +690,15 @@ fn seek(
     }
     let x = base_of(kind) + d;
     let u = t[joined_of(x)];
+    let w = t[also_of(x)];
     let r = row_of(labels, n, table, Vertex(u));
-    if is_hub(d, r.size) {
-        return hunt(coords, labels, n, offsets, entries, t, x, d, lo);
+    let q = row_of(labels, n, table, Vertex(w));
+    let one = fewer(r, q);
+    if is_hub(d, one.size) {
+        return hunt(coords, labels, n, offsets, entries, marks, t, x, d, lo);
     }
-    let from = r.from;
-    let end = from + r.size;
-    scan(
-        coords,
-        labels,
-        n,
-        offsets,
-        entries,
-        &table[from..end],
-        t,
-        x,
-        d,
-        lo,
-    )
+    let two = partner(r, q);
+    meet_rows(coords, marks, n, table, one, two, t, x, d, lo)
 }
 
 // ---- the test of a whole tuple
@@ -721,18 +763,33 @@ fn start(
     n: usize,
     offsets: &[u16],
     entries: &[u16],
+    marks: &[u8],
     table: &[u16],
     kind: u16,
     mark: [u16; 8],
 ) -> usize
-    requires { ⌜ Ready (now coords) (now labels) n (now offsets) (now entries) (now table) ⌝ }
+    requires { ⌜ Ready (now coords) (now labels) n (now offsets) (now entries) (now marks) (now table) ⌝ }
     ensures { λ r. ⌜ Begins (now (coords .entry)) (now (labels .entry)) kind mark r ⌝ }
 {
     let k = corners_of(kind);
     let mut d = 0;
     while d + 1 < k {
         let v = wide(mark[d]);
-        if seek(coords, labels, n, offsets, entries, table, kind, mark, d, v) != v {
+        if seek(
+            coords,
+            labels,
+            n,
+            offsets,
+            entries,
+            marks,
+            table,
+            kind,
+            mark,
+            d,
+            v,
+        )
+            != v
+        {
             return d;
         }
         d += 1;
@@ -748,19 +805,42 @@ pub fn next(
     n: usize,
     offsets: &[u16],
     entries: &[u16],
+    marks: &[u8],
     table: &[u16],
     kind: u16,
     mark: [u16; 8],
 ) -> Found
-    requires { ⌜ Ready (now coords) (now labels) n (now offsets) (now entries) (now table) × (length (now parts) ≡ length (now labels) / 4) ⌝ }
+    requires { ⌜ Ready (now coords) (now labels) n (now offsets) (now entries) (now marks) (now table) × (length (now parts) ≡ length (now labels) / 4) ⌝ }
     ensures { λ r. ⌜ LeastAfter (templateOf kind .corners) (isLeaf (meshOf (now (coords .entry)) (now (labels .entry)) (now (parts .entry))) (templateOf kind)) mark (r .found) (r .tuple) ⌝ }
 {
     let k = corners_of(kind);
     let mut t = mark;
-    let mut d = start(coords, labels, n, offsets, entries, table, kind, mark);
+    let mut d = start(
+        coords,
+        labels,
+        n,
+        offsets,
+        entries,
+        marks,
+        table,
+        kind,
+        mark,
+    );
     let mut lo = wide(t[d]) + 1;
     loop {
-        let c = seek(coords, labels, n, offsets, entries, table, kind, t, d, lo);
+        let c = seek(
+            coords,
+            labels,
+            n,
+            offsets,
+            entries,
+            marks,
+            table,
+            kind,
+            t,
+            d,
+            lo,
+        );
         if c < n {
             t[d] = c as u16;
             if d + 1 < k {

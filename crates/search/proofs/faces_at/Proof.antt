@@ -1,5 +1,5 @@
 -- `search::faces_at` meets its contract. Assumes nothing.
-use Rattle.cells.specs.Cells.{hasFaces, isFacet, isSplit}
+use Rattle.marks.specs.Marks.{facesNoted}
 use Rattle.search.proofs.Tables.{triangles-cut, quads-cut}
 use borrow.Author.Needs.{needs}
 use Rattle.search.proofs.faces_at.Statement.{statement}
@@ -18,10 +18,10 @@ slice-aggregate-faces-part-4 : tie.Need-slice-aggregate-faces-part-4
 slice-aggregate-faces-part-4 c = search needs
 
 faces-part-requires : tie.Need-faces-part-requires
-faces-part-requires c κs = let z = c .before .before .before .before .before .before .before .before in (z .pre .0, (triangles-cut (z .args .x) (z .pre .1), quads-cut (z .args .x) (z .pre .1)))
+faces-part-requires c κs = let z = c .before .before .before .before .before .before in (z .pre .0, (triangles-cut (z .args .x) (z .pre .1), quads-cut (z .args .x) (z .pre .1)))
 
 returns : tie.Need-returns
-unfolding hasFaces isFacet isSplit
+unfolding facesNoted
 returns c = c .faces-part .ensures
 
 pub faces-at-spec : {M : Type 1} → statement M

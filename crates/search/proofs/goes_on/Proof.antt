@@ -7,8 +7,8 @@ use Rattle.search.proofs.goes_on.Tie as tie
 returns : tie.Need-returns
 returns c = search needs
 
-cast-t11 : tie.Need-cast-t11
-cast-t11 c = search needs
+cast-t12 : tie.Need-cast-t12
+cast-t12 c = search needs
 
 tries-requires : tie.Need-tries-requires
 tries-requires c κs = search needs
@@ -24,4 +24,4 @@ returns-3 c = stops-leap (c .leap .ensures)
 
 pub goes-on-spec : {M : Type 1} → statement M
 goes-on-spec =
-    tie.close (tie.spec returns cast-t11 tries-requires returns-2 leap-requires returns-3)
+    tie.close (tie.spec returns cast-t12 tries-requires returns-2 leap-requires returns-3)

@@ -7,19 +7,19 @@ use Rattle.search.proofs.hunt.Statement.{statement}
 use Rattle.search.proofs.hunt.Tie as tie
 
 abbrev Inv-loop : tie.InvT-loop
-Inv-loop coords labels n offsets entries t x d lo v₀ v = Passed (Goes coords labels x d t) n lo v
+Inv-loop coords labels n offsets entries marks t x d lo v₀ v = Passed (Goes coords labels marks x d t) n lo v
 
 abbrev μ-loop : tie.MeasureT-loop
-μ-loop coords labels n offsets entries t x d lo v₀ v = n - v
+μ-loop coords labels n offsets entries marks t x d lo v₀ v = n - v
 
 loop-holds : tie.Need-loop-holds Inv-loop μ-loop
 loop-holds c = passed-none
 
 leap-requires : tie.Need-leap-requires Inv-loop μ-loop
-leap-requires c κs = let s = c .before .before .before .before .before in (s .pre .0 .0 .1, s .pre .1 .0)
+leap-requires c κs = let s = c .before .before .before .before .before .before in (s .pre .0 .0 .1, s .pre .1 .0)
 
 goes-on-requires : tie.Need-goes-on-requires Inv-loop μ-loop
-goes-on-requires c κs = c .before .before .before .before .before .before .pre
+goes-on-requires c κs = c .before .before .before .before .before .before .before .pre
 
 returns : tie.Need-returns Inv-loop μ-loop
 returns c =

@@ -13,16 +13,16 @@ use Rattle.search.proofs.next.Statement.{statement}
 use Rattle.search.proofs.next.Tie as tie
 
 abbrev Inv-loop : tie.InvT-loop
-Inv-loop coords labels parts n offsets entries table kind k t₀ d₀ lo₀ t d lo = Open (templateOf kind .corners) (isLeaf (meshOf coords labels parts) (templateOf kind)) t₀ t d lo
+Inv-loop coords labels parts n offsets entries marks table kind k t₀ d₀ lo₀ t d lo = Open (templateOf kind .corners) (isLeaf (meshOf coords labels parts) (templateOf kind)) t₀ t d lo
 
 abbrev μ-loop : tie.MeasureT-loop
-μ-loop coords labels parts n offsets entries table kind k t₀ d₀ lo₀ t d lo = left n k t d lo
+μ-loop coords labels parts n offsets entries marks table kind k t₀ d₀ lo₀ t d lo = left n k t d lo
 
 corners-of-requires : tie.Need-corners-of-requires Inv-loop μ-loop
 corners-of-requires c κs = search needs
 
 start-requires : tie.Need-start-requires Inv-loop μ-loop
-start-requires c κs = c .before .before .before .before .before .before .pre .0
+start-requires c κs = c .before .before .before .before .before .before .before .pre .0
 
 mul-wide : tie.Need-mul-wide Inv-loop μ-loop
 mul-wide c = omega arith
@@ -38,13 +38,14 @@ add-lo c = omega arith
 
 loop-holds : tie.Need-loop-holds Inv-loop μ-loop
 loop-holds c =
-    let z = c .before .before .before .before .before .before .before .before in
+    let z = c .before .before .before .before .before .before .before .before .before in
     let w = laws-of (z .pre .0) (z .args .kind) (z .args .mark) (z .args .parts .now) in
+    let g = z .good .1 .1 .1 .1 .1 .1 .1 .1 .1 .0 in
     let l : length (z .args .mark) ≡ 8 = search needs in
     rw (c .wide .ensures .0) (begin w (c .before .start .ensures .within) (omega (arith, c .before .before .corners-of .ensures)) (c .before .start .ensures .last (z .args .parts .now)))
 
 seek-requires : tie.Need-seek-requires Inv-loop μ-loop
-seek-requires c κs = (c .before .before .before .before .before .before .before .before .before .pre .0, c .loop .inv .inside)
+seek-requires c κs = (c .before .before .before .before .before .before .before .before .before .before .pre .0, c .loop .inv .inside)
 
 cast-t : tie.Need-cast-t Inv-loop μ-loop
 cast-t c = omega arith
@@ -63,23 +64,23 @@ add-d c = omega arith
 
 loop-less : tie.Need-loop-less Inv-loop μ-loop
 loop-less c =
-    let z = c .before .before .before .before .before .before .before .before .before .before .before .before in
+    let z = c .before .before .before .before .before .before .before .before .before .before .before .before .before in
     let o = c .before .before .before .loop in
     let s = c .before .before .seek in
     less-descend (z .args .n) (c .before .before .before .before .before .before .corners-of .result) (o .t) (o .d) (o .lo) (s .result) (s .ensures (z .args .parts .now) .low (omega arith)) (omega arith) (omega (arith, o .inv .inside, o .inv .long)) (omega arith)
 
 loop-again : tie.Need-loop-again Inv-loop μ-loop
 loop-again c =
-    let z = c .before .before .before .before .before .before .before .before .before .before .before .before in
+    let z = c .before .before .before .before .before .before .before .before .before .before .before .before .before in
     let w = laws-of (z .pre .0) (z .args .kind) (z .args .mark) (z .args .parts .now) in
     descend w (c .before .before .before .loop .inv) (c .before .before .seek .ensures (z .args .parts .now)) (omega arith) (omega (arith, c .before .before .before .before .before .before .corners-of .ensures .0))
 
 is-leaf-requires : tie.Need-is-leaf-requires Inv-loop μ-loop
-is-leaf-requires c κs = let z = c .before .before .before .before .before .before .before .before .before .before .before .before in record { close = z .pre .0 .close; parts = z .pre .1; indexed = z .pre .0 .indexed }
+is-leaf-requires c κs = let z = c .before .before .before .before .before .before .before .before .before .before .before .before .before in record { close = z .pre .0 .close; parts = z .pre .1; indexed = z .pre .0 .indexed }
 
 returns : tie.Need-returns Inv-loop μ-loop
 returns c =
-    let z = c .before .before .before .before .before .before .before .before .before .before .before .before .before .before in
+    let z = c .before .before .before .before .before .before .before .before .before .before .before .before .before .before .before in
     let w = laws-of (z .pre .0) (z .args .kind) (z .args .mark) (z .args .parts .now) in
     result w (c .before .before .before .before .before .loop .inv) (c .before .before .before .before .seek .ensures (z .args .parts .now)) (omega arith) (omega (arith, c .before .before .before .before .before .before .before .before .corners-of .ensures .0)) (sym (c .before .is-leaf .ensures) ∙ c .if3 .taken)
 
@@ -88,20 +89,20 @@ add-lo-2 c = omega arith
 
 loop-less-2 : tie.Need-loop-less-2 Inv-loop μ-loop
 loop-less-2 c =
-    let z = c .before .before .before .before .before .before .before .before .before .before .before .before .before .before in
+    let z = c .before .before .before .before .before .before .before .before .before .before .before .before .before .before .before in
     let o = c .before .before .before .before .before .loop in
     let s = c .before .before .before .before .seek in
     less-reject (z .args .n) (c .before .before .before .before .before .before .before .before .corners-of .result) (o .t) (o .d) (o .lo) (s .result) (s .ensures (z .args .parts .now) .low (omega arith)) (omega arith)
 
 loop-again-2 : tie.Need-loop-again-2 Inv-loop μ-loop
 loop-again-2 c =
-    let z = c .before .before .before .before .before .before .before .before .before .before .before .before .before .before in
+    let z = c .before .before .before .before .before .before .before .before .before .before .before .before .before .before .before in
     let w = laws-of (z .pre .0) (z .args .kind) (z .args .mark) (z .args .parts .now) in
     reject w (c .before .before .before .before .before .loop .inv) (c .before .before .before .before .seek .ensures (z .args .parts .now)) (omega arith) (omega (arith, c .before .before .before .before .before .before .before .before .corners-of .ensures .0)) (sym (c .before .is-leaf .ensures) ∙ c .if3 .left)
 
 returns-2 : tie.Need-returns-2 Inv-loop μ-loop
 returns-2 c =
-    let z = c .before .before .before .before .before .before .before .before .before .before .before .before in
+    let z = c .before .before .before .before .before .before .before .before .before .before .before .before .before in
     let w = laws-of (z .pre .0) (z .args .kind) (z .args .mark) (z .args .parts .now) in
     nothing w (c .before .before .before .loop .inv) (c .before .before .seek .ensures (z .args .parts .now)) (omega arith) (omega arith)
 
@@ -122,13 +123,13 @@ add-lo-3 c = omega arith
 
 loop-less-3 : tie.Need-loop-less-3 Inv-loop μ-loop
 loop-less-3 c =
-    let z = c .before .before .before .before .before .before .before .before .before .before .before .before .before in
+    let z = c .before .before .before .before .before .before .before .before .before .before .before .before .before .before in
     let o = c .before .before .before .before .loop in
     rw (c .wide2 .ensures .0) (less-carry (z .args .n) (c .before .before .before .before .before .before .before .corners-of .result) (o .t) (o .d) (o .lo) (omega arith))
 
 loop-again-3 : tie.Need-loop-again-3 Inv-loop μ-loop
 loop-again-3 c =
-    let z = c .before .before .before .before .before .before .before .before .before .before .before .before .before in
+    let z = c .before .before .before .before .before .before .before .before .before .before .before .before .before .before in
     let w = laws-of (z .pre .0) (z .args .kind) (z .args .mark) (z .args .parts .now) in
     rw (c .wide2 .ensures .0) (carry w (c .before .before .before .before .loop .inv) (c .before .before .before .seek .ensures (z .args .parts .now)) (omega arith) (omega arith))
 

@@ -12,21 +12,21 @@ returns : tie.Need-returns
 unfolding fits
 returns c = first-fails (c .before .comes-after .ensures) (c .if1 .taken) _ _
 
-sound-at-requires : tie.Need-sound-at-requires
-sound-at-requires c κs = search needs
-
-returns-2 : tie.Need-returns-2
-unfolding fits
-returns-2 c = second-fails (c .before .before .before .comes-after .ensures) (c .before .before .if1 .left) (c .before .sound-at .ensures) (c .if2 .taken) _
-
 faces-at-requires : tie.Need-faces-at-requires
 faces-at-requires c κs = search needs
 
+returns-2 : tie.Need-returns-2
+unfolding fits
+returns-2 c = second-fails (c .before .before .before .comes-after .ensures) (c .before .before .if1 .left) (c .before .faces-at .ensures) (c .if2 .taken) _
+
+sound-at-requires : tie.Need-sound-at-requires
+sound-at-requires c κs = search needs
+
 returns-3 : tie.Need-returns-3
 unfolding fits
-returns-3 c = third-decides (c .before .before .before .before .comes-after .ensures) (c .before .before .before .if1 .left) (c .before .before .sound-at .ensures) (c .before .if2 .left) (c .faces-at .ensures)
+returns-3 c = third-decides (c .before .before .before .before .comes-after .ensures) (c .before .before .before .if1 .left) (c .before .before .faces-at .ensures) (c .before .if2 .left) (c .sound-at .ensures)
 
 pub passes-spec : {M : Type 1} → statement M
 passes-spec =
     tie.close
-    (tie.spec comes-after-requires returns sound-at-requires returns-2 faces-at-requires returns-3)
+    (tie.spec comes-after-requires returns faces-at-requires returns-2 sound-at-requires returns-3)
