@@ -134,11 +134,12 @@ fn search_kind(
     n: usize,
     offsets: &[u16],
     entries: &[u16],
+    marks: &[u8],
     table: &[u16],
     kind: u16,
     mark: Mark,
 ) -> Found
-    requires { ⌜ Ready (now coords) (now labels) n (now offsets) (now entries) (now table) × (length (now parts) ≡ length (now labels) / 4) ⌝ }
+    requires { ⌜ Ready (now coords) (now labels) n (now offsets) (now entries) (now marks) (now table) × (length (now parts) ≡ length (now labels) / 4) ⌝ }
     requires { ⌜ templateOf kind .kind ≡ kind ⌝ }
     ensures { λ r. ⌜ Searched (meshOf (now (coords .entry)) (now (labels .entry)) (now (parts .entry))) (templateOf kind) (mark .kind) (letters mark) (r .found) (r .tuple) ⌝ }
 {
@@ -158,6 +159,7 @@ fn search_kind(
             n,
             offsets,
             entries,
+            marks,
             table,
             kind,
             from,
@@ -170,6 +172,7 @@ fn search_kind(
         n,
         offsets,
         entries,
+        marks,
         table,
         kind,
         [0; 8],
@@ -184,13 +187,14 @@ fn next_cell(
     n: usize,
     offsets: &[u16],
     entries: &[u16],
+    marks: &[u8],
     table: &[u16],
     mark: Mark,
 ) -> Step
-    requires { ⌜ Ready (now coords) (now labels) n (now offsets) (now entries) (now table) × (length (now parts) ≡ length (now labels) / 4) ⌝ }
+    requires { ⌜ Ready (now coords) (now labels) n (now offsets) (now entries) (now marks) (now table) × (length (now parts) ≡ length (now labels) / 4) ⌝ }
     ensures { λ r. ⌜ Came (meshOf (now (coords .entry)) (now (labels .entry)) (now (parts .entry))) (markOf mark) (r .found) (markOf (r .mark)) ⌝ }
 {
-    let x = search_kind(coords, labels, parts, n, offsets, entries, table, 8, mark);
+    let x = search_kind(coords, labels, parts, n, offsets, entries, marks, table, 8, mark);
     if x.found {
         let t = x.tuple;
         return Step {
@@ -198,7 +202,7 @@ fn next_cell(
             mark: mark_at(8, t),
         };
     }
-    let y = search_kind(coords, labels, parts, n, offsets, entries, table, 6, mark);
+    let y = search_kind(coords, labels, parts, n, offsets, entries, marks, table, 6, mark);
     if y.found {
         let t = y.tuple;
         return Step {
@@ -206,7 +210,7 @@ fn next_cell(
             mark: mark_at(6, t),
         };
     }
-    let z = search_kind(coords, labels, parts, n, offsets, entries, table, 5, mark);
+    let z = search_kind(coords, labels, parts, n, offsets, entries, marks, table, 5, mark);
     let t = z.tuple;
     Step {
         found: z.found,
@@ -282,11 +286,12 @@ pub fn write_cells(
     n: usize,
     offsets: &[u16],
     entries: &[u16],
+    marks: &[u8],
     table: &[u16],
     mark: Mark,
     records: &mut [u16],
 ) -> Answer
-    requires { ⌜ Ready (now coords) (now labels) n (now offsets) (now entries) (now table) × (length (now parts) ≡ length (now labels) / 4) ⌝ }
+    requires { ⌜ Ready (now coords) (now labels) n (now offsets) (now entries) (now marks) (now table) × (length (now parts) ≡ length (now labels) / 4) ⌝ }
     ensures { λ r. ⌜ Written (meshOf (now (coords .entry)) (now (labels .entry)) (now (parts .entry))) (markOf mark) (now (records .entry)) r (now (records .exit)) ⌝ }
 {
     if records.len() < SIZE {
@@ -296,7 +301,7 @@ pub fn write_cells(
     let mut i: usize = 0;
     let mut k = mark;
     loop {
-        let s = next_cell(coords, labels, parts, n, offsets, entries, table, k);
+        let s = next_cell(coords, labels, parts, n, offsets, entries, marks, table, k);
         if !s.found {
             return Answer::Given {
                 count: i,

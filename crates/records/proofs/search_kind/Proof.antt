@@ -8,7 +8,7 @@ use Rattle.records.proofs.search_kind.Statement.{statement}
 use Rattle.records.proofs.search_kind.Tie as tie
 
 returns : tie.Need-returns
-returns c = searched-past _ (templateOf (c .before .before .before .before .before .before .args .kind)) (c .before .before .before .before .before .before .pre .1) (c .if1 .taken)
+returns c = searched-past _ (templateOf (c .before .before .before .before .before .before .before .args .kind)) (c .before .before .before .before .before .before .before .pre .1) (c .if1 .taken)
 
 ordered-requires : tie.Need-ordered-requires
 ordered-requires c κs = search needs
@@ -17,13 +17,13 @@ next-requires : tie.Need-next-requires
 next-requires c κs = search needs
 
 returns-2 : tie.Need-returns-2
-returns-2 c = searched-within _ _ (c .before .before .before .before .before .before .before .before .before .pre .1) (c .before .before .if2 .taken) (c .before .ordered .ensures) (c .next .ensures)
+returns-2 c = searched-within _ _ (c .before .before .before .before .before .before .before .before .before .before .pre .1) (c .before .before .if2 .taken) (c .before .ordered .ensures) (c .next .ensures)
 
 next-requires-2 : tie.Need-next-requires-2
 next-requires-2 c κs = search needs
 
 returns-3 : tie.Need-returns-3
-returns-3 c = whole (omega (arith, c .before .before .before .before .before .before .before .before .pre .1)) (c .next2 .ensures)
+returns-3 c = whole (omega (arith, c .before .before .before .before .before .before .before .before .before .pre .1)) (c .next2 .ensures)
 
 pub search-kind-spec : {M : Type 1} → statement M
 search-kind-spec =

@@ -18,11 +18,11 @@ use Rattle.records.proofs.write_cells.Statement.{statement}
 use Rattle.records.proofs.write_cells.Tie as tie
 
 abbrev Inv-loop : tie.InvT-loop
-Inv-loop coords labels parts n offsets entries table records₀ most i₀ k₀ records i k =
+Inv-loop coords labels parts n offsets entries marks table records₀ most i₀ k₀ records i k =
     Come tetRule (fullList (meshOf coords labels parts)) (markOf k₀) records₀ (markOf k) i records
 
 abbrev μ-loop : tie.MeasureT-loop
-μ-loop coords labels parts n offsets entries table records₀ most i₀ k₀ records i k = most - i
+μ-loop coords labels parts n offsets entries marks table records₀ most i₀ k₀ records i k = most - i
 
 returns : tie.Need-returns Inv-loop μ-loop
 returns c = written-short _ _ _ (omega arith)
@@ -57,17 +57,17 @@ same-length-3 c = c .before .before .before .before .before .before .before .bef
 returns-4 : tie.Need-returns-4 Inv-loop μ-loop
 returns-4 c =
     let l = c .before .before .before .before .before .before .before .before .loop in
-    let a = c .before .before .before .before .before .before .before .before .before .before .before .before .before .before .before .before .args in
+    let a = c .before .before .before .before .before .before .before .before .before .before .before .before .before .before .before .before .before .args in
     written-long _ (l .inv) (omega arith) (c .before .before .before .before .before .before .before .next-cell .ensures) (not-false _ (c .before .before .before .before .before .if2 .left))
     (omega (arith, come-most tetRule _ (lawful _) (l .inv), c .before .before .before .before .if3 .left))
     (fits-many (a .coords .now) (a .labels .now) (a .parts .now) _ (c .before .before .tets-at .ensures) (c .if4 .taken))
 
 -- past the tests there is room for one record more
-below : (c : tie.Else4 Inv-loop μ-loop) → c .before .before .before .before .before .before .before .before .loop .i < length (c .before .before .before .before .before .before .before .before .before .before .before .before .before .before .before .before .args .records .now) / tetRule .size
+below : (c : tie.Else4 Inv-loop μ-loop) → c .before .before .before .before .before .before .before .before .loop .i < length (c .before .before .before .before .before .before .before .before .before .before .before .before .before .before .before .before .before .args .records .now) / tetRule .size
 below c = omega (arith, come-most tetRule _ (lawful _) (c .before .before .before .before .before .before .before .before .loop .inv), c .before .before .before .before .if3 .left)
 
 mul-put-record : tie.Need-mul-put-record Inv-loop μ-loop
-mul-put-record c = omega (arith, below (c .before), c .before .before .before .before .before .before .before .before .before .before .before .before .before .before .before .before .before .good .1 .1 .1 .1 .1 .1 .1 .1 .0 .0)
+mul-put-record c = omega (arith, below (c .before), c .before .before .before .before .before .before .before .before .before .before .before .before .before .before .before .before .before .before .good .1 .1 .1 .1 .1 .1 .1 .1 .1 .0 .0)
 
 put-record-requires : tie.Need-put-record-requires Inv-loop μ-loop
 put-record-requires c κs =
@@ -75,7 +75,7 @@ put-record-requires c κs =
     (omega (arith, d .if4 .left), (listed (d .before .before .tets-at .ensures), omega (arith, below d, d .before .before .before .before .before .before .before .before .loop .inv .laid .same)))
 
 add-i : tie.Need-add-i Inv-loop μ-loop
-add-i c = omega (arith, below (c .before .before .before .before), c .before .before .before .before .before .before .before .before .before .before .before .before .before .before .before .before .before .before .before .before .good .1 .1 .1 .1 .1 .1 .1 .1 .0 .0)
+add-i c = omega (arith, below (c .before .before .before .before), c .before .before .before .before .before .before .before .before .before .before .before .before .before .before .before .before .before .before .before .before .before .good .1 .1 .1 .1 .1 .1 .1 .1 .1 .0 .0)
 
 loop-less : tie.Need-loop-less Inv-loop μ-loop
 loop-less c = omega (arith, below (c .before .before .before .before))
@@ -83,7 +83,7 @@ loop-less c = omega (arith, below (c .before .before .before .before))
 loop-again : tie.Need-loop-again Inv-loop μ-loop
 loop-again c =
     let d = c .before .before .before .before in
-    let a = d .before .before .before .before .before .before .before .before .before .before .before .before .before .before .before .before .args in
+    let a = d .before .before .before .before .before .before .before .before .before .before .before .before .before .before .before .before .before .args in
     let t = d .before .before .tets-at .ensures in
     come-on _ (d .before .before .before .before .before .before .before .before .loop .inv) (d .before .before .before .before .before .before .before .next-cell .ensures) (not-false _ (d .before .before .before .before .before .if2 .left)) (below d)
     (fits-few (a .coords .now) (a .labels .now) (a .parts .now) _ t (omega (arith, d .if4 .left)))
