@@ -24,7 +24,7 @@ fn is_roomy(records: &[u16]) -> bool
     35 <= records.len()
 }
 
-// Indexes a mesh whose table is filled, and writes the records of its cells.
+// Indexes a mesh whose table is filled, marks its facets, and writes the records of its cells.
 fn write_listed(
     coords: &[i64],
     labels: &[u16],
@@ -32,16 +32,18 @@ fn write_listed(
     n: usize,
     offsets: &mut [u16],
     entries: &mut [u16],
+    marks: &mut [u8],
     table: &[u16],
     mark: Mark,
     records: &mut [u16],
 ) -> Answer
     requires { ⌜ Held (now coords) (now labels) (now parts) n ⌝ }
-    requires { ⌜ (n < length (now offsets)) × (length (now labels) ≤ length (now entries)) ⌝ }
+    requires { ⌜ (n < length (now offsets)) × ((length (now labels) ≤ length (now entries)) × (length (now marks) ≡ 131072)) ⌝ }
     requires { ⌜ Tabled (meshOf [] (now labels) []) n (now table) ⌝ }
     ensures { λ r. ⌜ Written (meshOf (now (coords .entry)) (now (labels .entry)) (now (parts .entry))) (markOf mark) (now (records .entry)) r (now (records .exit)) ⌝ }
 {
     around::index(labels, n, offsets, entries);
+    marks::note_facets(labels, marks);
     records::write_cells(
         coords,
         labels,
@@ -49,6 +51,7 @@ fn write_listed(
         n,
         offsets,
         entries,
+        marks,
         table,
         mark,
         records,
@@ -63,12 +66,13 @@ fn portion_of(
     n: usize,
     offsets: &mut [u16],
     entries: &mut [u16],
+    marks: &mut [u8],
     mark: Mark,
     table: &mut [u16],
     records: &mut [u16],
 ) -> Answer
     requires { ⌜ Held (now coords) (now labels) (now parts) n ⌝ }
-    requires { ⌜ (n < length (now offsets)) × (length (now labels) ≤ length (now entries)) ⌝ }
+    requires { ⌜ (n < length (now offsets)) × ((length (now labels) ≤ length (now entries)) × (length (now marks) ≡ 131072)) ⌝ }
     ensures { λ r. ⌜ Promised 0 (meshOf (now (coords .entry)) (now (labels .entry)) (now (parts .entry))) n (markOf mark) (now (table .entry)) (now (records .entry)) r (now (table .exit)) (now (records .exit)) ⌝ }
 {
     let roomy = is_roomy(records);
@@ -84,6 +88,7 @@ fn portion_of(
                     n,
                     offsets,
                     entries,
+                    marks,
                     table,
                     mark,
                     records,
@@ -126,13 +131,14 @@ fn portion_in(
     parts: &mut [u16],
     offsets: &mut [u16],
     entries: &mut [u16],
+    marks: &mut [u8],
     mark: Mark,
     table: &mut [u16],
     records: &mut [u16],
 ) -> Answer
     requires { ⌜ Framed (now file) n t × (checked (now file) ≡ Accepted n t) ⌝ }
     requires { ⌜ (length (now coords) ≡ 3 * n) × ((length (now labels) ≡ 4 * t) × (length (now parts) ≡ t)) ⌝ }
-    requires { ⌜ (n < length (now offsets)) × (4 * t ≤ length (now entries)) ⌝ }
+    requires { ⌜ (n < length (now offsets)) × ((4 * t ≤ length (now entries)) × (length (now marks) ≡ 131072)) ⌝ }
     ensures { λ r. ⌜ Portioned (now (file .entry)) (markOf mark) (now (table .entry)) (now (records .entry)) r (now (table .exit)) (now (records .exit)) ⌝ }
 {
     decode(file, n, t, coords, labels, parts);
@@ -143,6 +149,7 @@ fn portion_in(
         n,
         offsets,
         entries,
+        marks,
         mark,
         table,
         records,
@@ -166,6 +173,7 @@ fn portion_accepted(
     let mut parts: [u16; 2048] = [0; 2048];
     let mut offsets: [u16; 513] = [0; 513];
     let mut entries: [u16; 8192] = [0; 8192];
+    let mut marks: [u8; 131072] = [0; 131072];
     portion_in(
         file,
         n,
@@ -175,6 +183,7 @@ fn portion_accepted(
         &mut parts[..t],
         &mut offsets[..n + 1],
         &mut entries[..4 * t],
+        &mut marks[..131072],
         mark,
         table,
         records,

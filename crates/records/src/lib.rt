@@ -194,7 +194,18 @@ fn next_cell(
     requires { ⌜ Ready (now coords) (now labels) n (now offsets) (now entries) (now marks) (now table) × (length (now parts) ≡ length (now labels) / 4) ⌝ }
     ensures { λ r. ⌜ Came (meshOf (now (coords .entry)) (now (labels .entry)) (now (parts .entry))) (markOf mark) (r .found) (markOf (r .mark)) ⌝ }
 {
-    let x = search_kind(coords, labels, parts, n, offsets, entries, marks, table, 8, mark);
+    let x = search_kind(
+        coords,
+        labels,
+        parts,
+        n,
+        offsets,
+        entries,
+        marks,
+        table,
+        8,
+        mark,
+    );
     if x.found {
         let t = x.tuple;
         return Step {
@@ -202,7 +213,18 @@ fn next_cell(
             mark: mark_at(8, t),
         };
     }
-    let y = search_kind(coords, labels, parts, n, offsets, entries, marks, table, 6, mark);
+    let y = search_kind(
+        coords,
+        labels,
+        parts,
+        n,
+        offsets,
+        entries,
+        marks,
+        table,
+        6,
+        mark,
+    );
     if y.found {
         let t = y.tuple;
         return Step {
@@ -210,7 +232,18 @@ fn next_cell(
             mark: mark_at(6, t),
         };
     }
-    let z = search_kind(coords, labels, parts, n, offsets, entries, marks, table, 5, mark);
+    let z = search_kind(
+        coords,
+        labels,
+        parts,
+        n,
+        offsets,
+        entries,
+        marks,
+        table,
+        5,
+        mark,
+    );
     let t = z.tuple;
     Step {
         found: z.found,

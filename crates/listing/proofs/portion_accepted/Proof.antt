@@ -55,13 +55,16 @@ array-borrow-prefix-entries c = search needs
 slice-aggregate-portion-in-5 : tie.Need-slice-aggregate-portion-in-5
 slice-aggregate-portion-in-5 c = sym (length-take-le _ _ (search needs))
 
+slice-aggregate-portion-in-6 : tie.Need-slice-aggregate-portion-in-6
+slice-aggregate-portion-in-6 c = search needs
+
 portion-in-requires : tie.Need-portion-in-requires
 portion-in-requires c κs =
-    let s = c .before .before .before .before .before .before .before .before .before .before in (
+    let s = c .before .before .before .before .before .before .before .before .before .before .before in (
       s .pre,
       (
         (length-take-le _ _ (search needs), (length-take-le _ _ (search needs), length-take-le _ _ (search needs))),
-        (reaches (suc (s .args .n)) (s .args .n + 1) (replicate 513 0) (search needs) (omega arith), reaches (4 * s .args .t) (4 * s .args .t) (replicate 8192 0) (search needs) (omega arith)),
+        (reaches (suc (s .args .n)) (s .args .n + 1) (replicate 513 0) (search needs) (omega arith), (reaches (4 * s .args .t) (4 * s .args .t) (replicate 8192 0) (search needs) (omega arith), search needs)),
       ),
     )
 
@@ -72,7 +75,7 @@ same-length-2 : tie.Need-same-length-2
 same-length-2 c = search needs
 
 returns : tie.Need-returns
-returns c = c .before .before .before .before .before .before .before .before .before .portion-in .ensures
+returns c = c .before .before .before .before .before .before .before .before .before .before .portion-in .ensures
 
 pub portion-accepted-spec : {M : Type 1} → statement M
 portion-accepted-spec =
@@ -92,6 +95,7 @@ portion-accepted-spec =
     mul-entries
     array-borrow-prefix-entries
     slice-aggregate-portion-in-5
+    slice-aggregate-portion-in-6
     portion-in-requires
     same-length
     same-length-2

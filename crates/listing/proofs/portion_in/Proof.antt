@@ -12,15 +12,15 @@ use Rattle.listing.proofs.portion_in.Tie as tie
 
 decode-requires : tie.Need-decode-requires
 decode-requires c κs =
-    let p = c .before .before .before .before .before .before .before .before .before .before .pre in
+    let p = c .before .before .before .before .before .before .before .before .before .before .before .pre in
     (p .0 .0, p .1 .0)
 
 portion-of-requires : tie.Need-portion-of-requires
 portion-of-requires c κs =
-    let s = c .before .before .before .before .before .before .before .before .before .before .before .before .before .before .before .before .before .before .before .before .before .before .before in
-    let e = c .before .before .before .before .before .before .before .before .before .before .before .before .decode .ensures in
+    let s = c .before .before .before .before .before .before .before .before .before .before .before .before .before .before .before .before .before .before .before .before .before .before .before .before .before in
+    let e = c .before .before .before .before .before .before .before .before .before .before .before .before .before .decode .ensures in
     let h = held (s .args .file .now) (s .args .n) (s .args .t) (s .pre .0 .1) (e .0) (e .1 .0) (e .1 .1) in
-    (h, (s .pre .1 .1 .0, omega (arith, s .pre .1 .1 .1, ap length (e .1 .0), labels-long (tetPart (s .args .n) (s .args .file .now)) (4 * s .args .t))))
+    (h, (s .pre .1 .1 .0, (omega (arith, s .pre .1 .1 .1 .0, ap length (e .1 .0), labels-long (tetPart (s .args .n) (s .args .file .now)) (4 * s .args .t)), s .pre .1 .1 .1 .1)))
 
 same-length : tie.Need-same-length
 same-length c = search needs
@@ -43,11 +43,14 @@ same-length-6 c = search needs
 same-length-7 : tie.Need-same-length-7
 same-length-7 c = search needs
 
+same-length-8 : tie.Need-same-length-8
+same-length-8 c = search needs
+
 returns : tie.Need-returns
 returns c =
-    let s = c .before .before .before .before .before .before .before .before .before .before .before .before .before .before .before .before .before .before .before .before .before .before .before .before .before .before .before .before .before .before .before .before in
-    let e = c .before .before .before .before .before .before .before .before .before .before .before .before .before .before .before .before .before .before .before .before .before .decode .ensures in
-    promised-file (s .args .file .now) (s .args .n) (s .args .t) (s .pre .0 .1) (e .0) (e .1 .0) (e .1 .1) (c .before .before .before .before .before .before .before .before .portion-of .ensures)
+    let s = c .before .before .before .before .before .before .before .before .before .before .before .before .before .before .before .before .before .before .before .before .before .before .before .before .before .before .before .before .before .before .before .before .before .before .before .before in
+    let e = c .before .before .before .before .before .before .before .before .before .before .before .before .before .before .before .before .before .before .before .before .before .before .before .before .decode .ensures in
+    promised-file (s .args .file .now) (s .args .n) (s .args .t) (s .pre .0 .1) (e .0) (e .1 .0) (e .1 .1) (c .before .before .before .before .before .before .before .before .before .before .portion-of .ensures)
 
 pub portion-in-spec : {M : Type 1} → statement M
 portion-in-spec =
@@ -62,4 +65,5 @@ portion-in-spec =
     same-length-5
     same-length-6
     same-length-7
+    same-length-8
     returns)

@@ -6,10 +6,13 @@ use Rattle.listing.proofs.write_listed.Tie as tie
 index-requires : tie.Need-index-requires
 index-requires c κs = search needs
 
+note-facets-requires : tie.Need-note-facets-requires
+note-facets-requires c κs = c .before .before .before .before .before .before .before .before .before .before .before .before .before .before .before .pre .1 .0 .1 .1
+
 write-cells-requires : tie.Need-write-cells-requires
 write-cells-requires c κs =
-    let h = c .before .before .before .before .before .before .before .before .before .before .before .before .before .before .before .before .pre .0 in (
-      record { close = h .close; counted = h .counted; few = h .few; indexed = c .before .before .before .before .before .before .before .index .ensures .0; tabled = c .before .before .before .before .before .before .before .before .before .before .before .before .before .before .before .before .pre .1 .1 },
+    let h = c .before .before .before .before .before .before .before .before .before .before .before .before .before .before .before .before .before .before .before .before .before .before .pre .0 in (
+      record { close = h .close; counted = h .counted; few = h .few; marked = c .before .before .before .before .before .before .note-facets .ensures; indexed = c .before .before .before .before .before .before .before .before .before .before .before .before .index .ensures .0; tabled = c .before .before .before .before .before .before .before .before .before .before .before .before .before .before .before .before .before .before .before .before .before .before .pre .1 .1 },
       h .parted,
     )
 
@@ -22,10 +25,21 @@ same-length-2 c = search needs
 same-length-3 : tie.Need-same-length-3
 same-length-3 c = search needs
 
+same-length-4 : tie.Need-same-length-4
+same-length-4 c = search needs
+
 returns : tie.Need-returns
 returns c = search needs
 
 pub write-listed-spec : {M : Type 1} → statement M
 write-listed-spec =
     tie.close
-    (tie.spec index-requires write-cells-requires same-length same-length-2 same-length-3 returns)
+    (tie.spec
+    index-requires
+    note-facets-requires
+    write-cells-requires
+    same-length
+    same-length-2
+    same-length-3
+    same-length-4
+    returns)
