@@ -16,7 +16,8 @@ use Rattle.space.specs.Mesh.{holds, together}
 use Rattle.space.specs.Arrays.{row4, meshOf, around}
 use Rattle.around.specs.Index.{hasAll, fewest}
 use Rattle.around.proofs.Around.{fewest-held, any-tets}
-use Rattle.ahead.specs.Ahead.{Beside, Closes, Least, ByOne, ByRow, VertexOf, BesideTet}
+use Rattle.marks.specs.Marks.{Marked, noted}
+use Rattle.ahead.specs.Ahead.{Beside, Closes, Least, ByOne, ByRow, VertexOf, FacetOf, BesideTet}
 
 module _ {P : ℕ → Type 0} {lo best : ℕ} where
   -- nothing that is asked for is less
@@ -34,6 +35,30 @@ module _ {P : ℕ → Type 0} {lo best : ℕ} where
     low = λ h. elim (decLt b a) [ yes l ↦ y .low l | no l ↦ let e : b ≡ a = omega (arith, y .most) in omega (arith, x .low (omega arith)) ];
     least = λ v p h. ⊎-elim (λ q. omega (arith, x .least v q h, y .most)) (λ q. y .least v q h) (f v p);
   }
+
+-- ── one vertex after the other ──
+
+-- what is asked for from lo on comes from v on
+pub record Passed (P : ℕ → Type 0) (lo v : ℕ) : Type 0 where
+  pub low : lo ≤ v
+  pub rest : (y : ℕ) → P y → lo ≤ y → v ≤ y
+
+module _ {P : ℕ → Type 0} {lo : ℕ} where
+  pub passed-none : Passed P lo lo
+  passed-none = record { low = omega arith; rest = λ y p h. h }
+
+  module _ {v : ℕ} (a : Passed P lo v) where
+    pub passed-on : (P v → ⊥) → Passed P lo (v + 1)
+    passed-on f = record {
+      low = omega (arith, a .low);
+      rest = λ y p h. elim (decLt v y) [ yes l ↦ omega arith | no l ↦ let e : y ≡ v = omega (arith, a .rest y p h) in absurd (f (rw e at p)) ];
+    }
+
+    pub passed-here : {best : ℕ} → v < best → Least P lo best v
+    passed-here h = record { most = omega arith; low = λ g. a .low; least = a .rest }
+
+    pub passed-all : {best : ℕ} → best ≤ v → Least P lo best best
+    passed-all h = least-stays (λ y p g. omega (arith, a .rest y p g))
 
 -- ── four vertices ──
 
@@ -118,10 +143,13 @@ module _ (ls : List ℕ) (u x : ℕ) where
       let b = parts v (getD row (a .0) 0) (a .2) in
       record { place = a .0; before = a .1; having = b .0; inside = b .1 }
 
-  pub beside-least : {lo best r : ℕ} → Least (ByRow (VertexOf ls) ls (u ∷ x ∷ []) (around ls (fewest ls u x x)) (length (around ls (fewest ls u x x)))) lo best r → (w : ℕ) → Least (Beside ls u w x) lo best r
-  beside-least a w = least-of a (λ v b. let s = stands v (b .facet) in record { place = s .place; before = s .before; having = s .having; asks = s .inside })
+  pub facing-least : {lo best r : ℕ} → Least (ByRow (VertexOf ls) ls (u ∷ x ∷ []) (around ls (fewest ls u x x)) (length (around ls (fewest ls u x x)))) lo best r → Least (FacetOf ls u x) lo best r
+  facing-least a = least-of a (λ v f. let s = stands v f in record { place = s .place; before = s .before; having = s .having; asks = s .inside })
 
-  pub closes-least : {lo best r : ℕ} → Least (ByRow (BesideTet ls u x) ls (u ∷ x ∷ []) (around ls (fewest ls u x x)) (length (around ls (fewest ls u x x)))) lo best r → Least (Closes ls u x) lo best r
+  pub noted-least : {ms : List ℕ} {lo best r : ℕ} → Marked ls ms → Least (λ v. noted ms u x v ≡ true) lo best r → Least (FacetOf ls u x) lo best r
+  noted-least m a = least-of a (λ v f. m .facets u x v f)
+
+  pub closes-least : {p lo best r : ℕ} → Least (ByRow (BesideTet ls p u x) ls (u ∷ x ∷ []) (around ls (fewest ls u x x)) (length (around ls (fewest ls u x x)))) lo best r → Least (Closes ls p u x) lo best r
   closes-least a = least-of a (λ v c.
       let s = stands (c .via) (c .near) in
       record { place = s .place; before = s .before; having = s .having; asks = record { via = c .via; inside = s .inside; asks = c .far } })
