@@ -3,14 +3,15 @@ use cells::corners3;
 use cells::corners4;
 use space::Vertex;
 ghost use mathlib.Core.Path.{_≡_};
+ghost use mathlib.Core.Bool.{_&&_};
 ghost use Prim.Native.Nat.{_*_, _/_, _<_};
-ghost use mathlib.Core.List.{[]};
+ghost use mathlib.Core.List.{[], _∷_};
 ghost use Rattle.base.specs.Lists.{all};
 ghost use lib.ListN.{length};
 ghost use Rattle.space.specs.Arrays.{row4};
 ghost use Rattle.templates.specs.Tables.{at};
 ghost use Rattle.cells.specs.Rows.{row3, threes, fours, tabled};
-ghost use Rattle.marks.specs.Marks.{key, noted, Marked, notedFacet, splitAt, notedSplit, facesNoted};
+ghost use Rattle.marks.specs.Marks.{key, noted, Marked, notedFacet, splitAt, notedSplit, facesNoted, Notes, OfPoint, OfLine, OfSquare, OfTet};
 
 fn wide(v: Vertex) -> usize
     ensures { λ r. ⌜ (r ≡ v .0) × (r < 65536) ⌝ }
@@ -44,22 +45,97 @@ pub fn is_noted(marks: &[u8], u: Vertex, v: Vertex, w: Vertex) -> bool
     marks[at] != 0
 }
 
+// ---- making the marks
+
+fn note(marks: &mut [u8], u: Vertex, v: Vertex, w: Vertex)
+    requires { ⌜ length (now marks) ≡ 131072 ⌝ }
+    ensures { λ r. ⌜ Notes (now (marks .entry)) (now (marks .exit)) (OfPoint (u .0) (v .0) (w .0)) ⌝ }
+{
+    let at = key(u, v, w);
+    marks[at] = 1;
+}
+
+// u and v with each of the four.
+fn note_line(marks: &mut [u8], u: Vertex, v: Vertex, a: Vertex, b: Vertex, c: Vertex, d: Vertex)
+    requires { ⌜ length (now marks) ≡ 131072 ⌝ }
+    ensures { λ r. ⌜ Notes (now (marks .entry)) (now (marks .exit)) (OfLine (u .0) (v .0) (a .0 ∷ b .0 ∷ c .0 ∷ d .0 ∷ [])) ⌝ }
+{
+    note(marks, u, v, a);
+    note(marks, u, v, b);
+    note(marks, u, v, c);
+    note(marks, u, v, d);
+}
+
+// u with each two of the four.
+fn note_square(marks: &mut [u8], u: Vertex, a: Vertex, b: Vertex, c: Vertex, d: Vertex)
+    requires { ⌜ length (now marks) ≡ 131072 ⌝ }
+    ensures { λ r. ⌜ Notes (now (marks .entry)) (now (marks .exit)) (OfSquare (u .0) (a .0 ∷ b .0 ∷ c .0 ∷ d .0 ∷ [])) ⌝ }
+{
+    note_line(marks, u, a, a, b, c, d);
+    note_line(marks, u, b, a, b, c, d);
+    note_line(marks, u, c, a, b, c, d);
+    note_line(marks, u, d, a, b, c, d);
+}
+
+// Each three of the four, in every order and also where two are one: so no law about the key is needed.
+fn note_tet(marks: &mut [u8], a: Vertex, b: Vertex, c: Vertex, d: Vertex)
+    requires { ⌜ length (now marks) ≡ 131072 ⌝ }
+    ensures { λ r. ⌜ Notes (now (marks .entry)) (now (marks .exit)) (OfTet (a .0 ∷ b .0 ∷ c .0 ∷ d .0 ∷ [])) ⌝ }
+{
+    note_square(marks, a, a, b, c, d);
+    note_square(marks, b, a, b, c, d);
+    note_square(marks, c, a, b, c, d);
+    note_square(marks, d, a, b, c, d);
+}
+
+// Marks every facet. Other marks stay.
+pub fn note_facets(labels: &[u16], marks: &mut [u8])
+    requires { ⌜ length (now marks) ≡ 131072 ⌝ }
+    ensures { λ r. ⌜ Marked (now (labels .entry)) (now (marks .exit)) ⌝ }
+{
+    let t = labels.len() / 4;
+    let mut i = 0;
+    while i < t {
+        let at = 4 * i;
+        let p = labels[at];
+        let q = labels[at + 1];
+        let r = labels[at + 2];
+        let s = labels[at + 3];
+        note_tet(marks, Vertex(p), Vertex(q), Vertex(r), Vertex(s));
+        i += 1;
+    }
+}
+
 // ---- the faces of a table
 
-// Both triangles of a diagonal may be facets.
+// Two triangles may be facets.
+fn both_noted(
+    marks: &[u8],
+    a: Vertex,
+    b: Vertex,
+    c: Vertex,
+    d: Vertex,
+    e: Vertex,
+    f: Vertex,
+) -> bool
+    requires { ⌜ length (now marks) ≡ 131072 ⌝ }
+    ensures { λ r. ⌜ r ≡ (noted (now (marks .entry)) (a .0) (b .0) (c .0) && noted (now (marks .entry)) (d .0) (e .0) (f .0)) ⌝ }
+{
+    if !is_noted(marks, a, b, c) {
+        return false;
+    }
+    is_noted(marks, d, e, f)
+}
+
+// Both triangles of a diagonal of a quadrilateral may be facets.
 fn split_noted(marks: &[u8], a: Vertex, b: Vertex, c: Vertex, d: Vertex) -> bool
     requires { ⌜ length (now marks) ≡ 131072 ⌝ }
     ensures { λ r. ⌜ r ≡ splitAt (now (marks .entry)) (a .0) (b .0) (c .0) (d .0) ⌝ }
 {
-    if is_noted(marks, a, b, c) {
-        if is_noted(marks, a, c, d) {
-            return true;
-        }
+    if both_noted(marks, a, b, c, a, c, d) {
+        return true;
     }
-    if is_noted(marks, a, b, d) {
-        return is_noted(marks, b, c, d);
-    }
-    false
+    both_noted(marks, a, b, d, b, c, d)
 }
 
 fn triangle_noted(marks: &[u8], c: &[u16], rows: &[u8], i: usize) -> bool

@@ -13,7 +13,7 @@ shared-slice-read-result c = search needs
 
 returns : tie.Need-returns
 unfolding noted
-returns c = rw (c .key .ensures .0)
+returns c = rw (c .before .key .ensures .0)
 
 pub is-noted-spec : {M : Type 1} → statement M
 is-noted-spec = tie.close (tie.spec key-requires shared-slice-read-result returns)

@@ -22,7 +22,7 @@ loop-holds : tie.Need-loop-holds Inv-loop μ-loop
 loop-holds c = (refl, all-start)
 
 triangle-noted-requires : tie.Need-triangle-noted-requires Inv-loop μ-loop
-triangle-noted-requires c κs = (c .before .before .before .before .before .before .before .pre, omega arith)
+triangle-noted-requires c κs = (c .before .before .before .before .before .pre, omega arith)
 
 returns : tie.Need-returns Inv-loop μ-loop
 returns c = all-fails (c .before .before .before .loop .inv .1) (omega arith) (sym (c .before .triangle-noted .ensures) ∙ not-true _ (c .if1 .taken))
