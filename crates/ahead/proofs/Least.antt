@@ -1,23 +1,23 @@
 -- Laws of the least of what is asked for, and what the rows of the index give.
 -- Assumes nothing.
-use Prim.Native.Nat.{ℕ, zero, suc, _+_, _*_, _-_, _/_, _≤_, _<_}
-use mathlib.Core.Path.{_≡_, refl, sym, _∙_, ap}
+use Prim.Native.Nat.{ℕ, suc, _+_, _≤_, _<_}
+use mathlib.Core.Path.{_≡_, refl, sym, _∙_}
 use mathlib.Core.Logic.{_⊎_, inl, inr, ⊎-elim}
 use mathlib.Core.Bool.{Bool, true, false, _&&_, _||_, true≢false, false≢true}
-use mathlib.Core.List.{List, [], _∷_, List·Memᴰ, List·Memᴰ·head, List·Memᴰ·tail}
+use mathlib.Core.List.{List, [], _∷_}
 use native.Mathlib.Omega.{arith}
 use native.Mathlib.Decide.{decLt}
 use borrow.Author.Tests.{eqb-true}
 use lib.Dec.{eqb}
 use lib.ListN.{length, getD}
-use Rattle.base.specs.Lists.{all, any, isIn}
+use Rattle.base.specs.Lists.{any, isIn}
 use Rattle.base.proofs.Lists.{both-left, both-right}
 use Rattle.space.specs.Mesh.{holds, together}
 use Rattle.space.specs.Arrays.{row4, meshOf, around}
 use Rattle.around.specs.Index.{hasAll, fewest}
 use Rattle.around.proofs.Around.{fewest-held, any-tets}
 use Rattle.marks.specs.Marks.{Marked, noted}
-use Rattle.ahead.specs.Ahead.{Beside, Closes, Least, ByOne, ByRow, VertexOf, FacetOf, BesideTet}
+use Rattle.ahead.specs.Ahead.{Closes, Least, ByOne, ByRow, VertexOf, FacetOf, BesideTet}
 
 module _ {P : ℕ → Type 0} {lo best : ℕ} where
   -- nothing that is asked for is less
@@ -66,11 +66,11 @@ or-either : (a b : Bool) {P : Type 0} → (a || b) ≡ true → (a ≡ true → 
 or-either true b e f g = f refl
 or-either false b e f g = g e
 
-split-in : {asked : ℕ → ℕ → Type 0} (x : ℕ) (xs : List ℕ) (v : ℕ) → ByOne asked (x ∷ xs) v → asked x v ⊎ ByOne asked xs v
+pub split-in : {asked : ℕ → ℕ → Type 0} (x : ℕ) (xs : List ℕ) (v : ℕ) → ByOne asked (x ∷ xs) v → asked x v ⊎ ByOne asked xs v
 split-in {asked} x xs v b =
     or-either (eqb (b .via) x) (isIn (b .via) xs) (b .inside) (λ e. inl (rw (← eqb-true (b .via) x e) (b .asks))) (λ e. inr (record { via = b .via; inside = e; asks = b .asks }))
 
-none-in : {asked : ℕ → ℕ → Type 0} (v : ℕ) → ByOne asked [] v → ⊥
+pub none-in : {asked : ℕ → ℕ → Type 0} (v : ℕ) → ByOne asked [] v → ⊥
 none-in v b = false≢true (b .inside)
 
 pub least-four : {asked : ℕ → ℕ → Type 0} {x y z w lo best a b c r : ℕ} → Least (asked x) lo best a → Least (asked y) lo a b → Least (asked z) lo b c → Least (asked w) lo c r → Least (ByOne asked (x ∷ y ∷ z ∷ w ∷ [])) lo best r
@@ -85,17 +85,19 @@ vertex-in a = least-of a (λ v e. record { via = v; inside = e; asks = refl })
 
 -- ── a row ──
 
+module _ {asked : ℕ → ℕ → Type 0} {ls vs row : List ℕ} where
+  -- asked for by the tetrahedron at place i, or by one before it
+  pub earlier : {i : ℕ} (v : ℕ) → ByRow asked ls vs row (i + 1) v → ByRow asked ls vs row i v ⊎ ((hasAll ls vs (getD row i 0) ≡ true) × asked (getD row i 0) v)
+  earlier {i} v p = elim (decLt (p .place) i) [
+    | yes l ↦ inl (record { place = p .place; before = l; having = p .having; asks = p .asks })
+    | no l ↦ let e : p .place ≡ i = omega (arith, p .before) in inr (rw (← e) (p .having), rw (← e) (p .asks))
+  ]
+
 module _ {asked : ℕ → ℕ → Type 0} {ls vs row : List ℕ} {lo best : ℕ} where
   pub row-none : Least (ByRow asked ls vs row 0) lo best best
   row-none = least-stays (λ v p h. absurd (let z : ⊥ = omega (arith, p .before) in z))
 
   module _ {i b : ℕ} (a : Least (ByRow asked ls vs row i) lo best b) where
-    earlier : (v : ℕ) → ByRow asked ls vs row (i + 1) v → ByRow asked ls vs row i v ⊎ ((hasAll ls vs (getD row i 0) ≡ true) × asked (getD row i 0) v)
-    earlier v p = elim (decLt (p .place) i) [
-      | yes l ↦ inl (record { place = p .place; before = l; having = p .having; asks = p .asks })
-      | no l ↦ let e : p .place ≡ i = omega (arith, p .before) in inr (rw (← e) (p .having), rw (← e) (p .asks))
-    ]
-
     pub row-skip : hasAll ls vs (getD row i 0) ≡ false → Least (ByRow asked ls vs row (i + 1)) lo best b
     row-skip f = least-of a (λ v p. ⊎-elim (λ q. q) (λ q. absurd (true≢false (sym (q .0) ∙ f))) (earlier v p))
 
@@ -136,7 +138,7 @@ module _ (ls : List ℕ) (u x : ℕ) where
     pub having : hasAll ls (u ∷ x ∷ []) (getD (around ls (fewest ls u x x)) place 0) ≡ true
     pub inside : isIn v (row4 ls (getD (around ls (fewest ls u x x)) place 0)) ≡ true
 
-  stands : (v : ℕ) → together (meshOf [] ls []) (u ∷ x ∷ v ∷ []) ≡ true → Stands v
+  pub stands : (v : ℕ) → together (meshOf [] ls []) (u ∷ x ∷ v ∷ []) ≡ true → Stands v
   unfolding together
   stands v e =
       let a = any-place (hasAll ls (u ∷ x ∷ v ∷ [])) row (any-tets ls [] (fewest ls u x x) (holds (u ∷ x ∷ v ∷ [])) (rarer-held v) ∙ e) in

@@ -15,7 +15,8 @@ ghost use lib.ListN.{length};
 ghost use Rattle.around.specs.Index.{Indexed};
 ghost use Rattle.around.specs.Build.{Within};
 ghost use Rattle.marks.specs.Marks.{Marked, noted};
-ghost use Rattle.ahead.specs.Ahead.{Closes, Least, Beside, ByRow, VertexOf, FacetOf, BesideTet};
+ghost use Rattle.ahead.specs.Adds.{Adds, LinkAt, LinkTet};
+ghost use Rattle.ahead.specs.Ahead.{Closes, Links, Only, Least, Beside, ByRow, VertexOf, FacetOf, BesideTet};
 
 // A row that is longer than this is not gone through. The choice is a matter of speed alone.
 const MANY: usize = 96;
@@ -225,17 +226,174 @@ pub fn beyond(
     }
     let from = row.from;
     let end = from + row.size;
-    beside_row(
+    let part = &entries[from..end];
+    beside_row(labels, n, offsets, entries, marks, p, part, u, w, lo, n)
+}
+
+// ---- the vertices that link two others
+
+// The linking vertices that were met: whether there are some, whether it is a single one, and that one.
+// Of several, vertex is one with the most tetrahedra around it. The choice is a matter of speed alone.
+pub struct Linking {
+    pub some: bool,
+    pub single: bool,
+    pub vertex: u16,
+}
+
+// Of two vertices, one with the most tetrahedra around it.
+fn fuller(labels: &[u16], n: usize, offsets: &[u16], entries: &[u16], x: Vertex, y: Vertex) -> u16
+    requires { ⌜ Indexed (now labels) n (now offsets) (now entries) ⌝ }
+{
+    let p = row_of(labels, n, offsets, entries, x);
+    let q = row_of(labels, n, offsets, entries, y);
+    if p.size < q.size { y.0 } else { x.0 }
+}
+
+// A linking vertex more.
+fn one_more(
+    labels: &[u16],
+    n: usize,
+    offsets: &[u16],
+    entries: &[u16],
+    x: Vertex,
+    s: Linking,
+) -> Linking
+    requires { ⌜ Indexed (now labels) n (now offsets) (now entries) ⌝ }
+    ensures { λ r. ⌜ Adds (λ y. y ≡ x .0) s r ⌝ }
+{
+    if !s.some {
+        return Linking {
+            some: true,
+            single: true,
+            vertex: x.0,
+        };
+    }
+    if s.vertex == x.0 {
+        return s;
+    }
+    Linking {
+        some: true,
+        single: false,
+        vertex: fuller(labels, n, offsets, entries, x, Vertex(s.vertex)),
+    }
+}
+
+// The vertex x more, unless it is u or w, or makes no facet with u and v.
+fn sole_at(
+    labels: &[u16],
+    n: usize,
+    offsets: &[u16],
+    entries: &[u16],
+    marks: &[u8],
+    u: Vertex,
+    w: Vertex,
+    v: Vertex,
+    x: Vertex,
+    s: Linking,
+) -> Linking
+    requires { ⌜ Indexed (now labels) n (now offsets) (now entries) × Marked (now labels) (now marks) ⌝ }
+    ensures { λ r. ⌜ Adds (LinkAt (now (labels .entry)) (u .0) (w .0) (v .0) (x .0)) s r ⌝ }
+{
+    if is_same(x, u) {
+        return s;
+    }
+    if is_same(x, w) {
+        return s;
+    }
+    if is_noted(marks, u, x, v) {
+        return one_more(labels, n, offsets, entries, x, s);
+    }
+    s
+}
+
+// The same for each vertex x of a tetrahedron.
+fn sole_tet(
+    labels: &[u16],
+    n: usize,
+    offsets: &[u16],
+    entries: &[u16],
+    marks: &[u8],
+    e: Tet,
+    u: Vertex,
+    w: Vertex,
+    v: Vertex,
+    s: Linking,
+) -> Linking
+    requires { ⌜ Indexed (now labels) n (now offsets) (now entries) × Marked (now labels) (now marks) ⌝ }
+    requires { ⌜ e .0 < length (now labels) / 4 ⌝ }
+    ensures { λ r. ⌜ Adds (LinkTet (now (labels .entry)) (u .0) (w .0) (v .0) (e .0)) s r ⌝ }
+{
+    let at = 4 * (e.0 as usize);
+    let k = Vertex(labels[at]);
+    let p = Vertex(labels[at + 1]);
+    let q = Vertex(labels[at + 2]);
+    let r = Vertex(labels[at + 3]);
+    let a = sole_at(labels, n, offsets, entries, marks, u, w, v, k, s);
+    let b = sole_at(labels, n, offsets, entries, marks, u, w, v, p, a);
+    let c = sole_at(labels, n, offsets, entries, marks, u, w, v, q, b);
+    sole_at(labels, n, offsets, entries, marks, u, w, v, r, c)
+}
+
+// The same for each vertex x of the row's tetrahedra that have u and w.
+fn sole_row(
+    labels: &[u16],
+    n: usize,
+    offsets: &[u16],
+    entries: &[u16],
+    marks: &[u8],
+    row: &[u16],
+    u: Vertex,
+    w: Vertex,
+    v: Vertex,
+) -> Linking
+    requires { ⌜ Indexed (now labels) n (now offsets) (now entries) × Marked (now labels) (now marks) ⌝ }
+    requires { ⌜ Within (length (now labels) / 4) (now row) ⌝ }
+    ensures { λ r. ⌜ Only (ByRow (LinkTet (now (labels .entry)) (u .0) (w .0) (v .0)) (now (labels .entry)) (u .0 ∷ w .0 ∷ []) (now (row .entry)) (length (now (row .entry)))) (r .some) (r .single) (r .vertex) ⌝ }
+{
+    let mut s = Linking {
+        some: false,
+        single: false,
+        vertex: 65535,
+    };
+    let mut k = 0;
+    while k < row.len() {
+        let e = row[k];
+        if tet_has2(labels, Tet(e), u, w) {
+            s = sole_tet(labels, n, offsets, entries, marks, Tet(e), u, w, v, s);
+        }
+        k += 1;
+    }
+    s
+}
+
+// The vertices that link w and v: those but u and w that make a facet with u and w, and one with u and v.
+// None of them is left out; one that the marks merely do not exclude may be counted too.
+pub fn sole(
+    labels: &[u16],
+    n: usize,
+    offsets: &[u16],
+    entries: &[u16],
+    marks: &[u8],
+    u: Vertex,
+    w: Vertex,
+    v: Vertex,
+) -> Linking
+    requires { ⌜ Indexed (now labels) n (now offsets) (now entries) × Marked (now labels) (now marks) ⌝ }
+    ensures { λ r. ⌜ Only (Links (now (labels .entry)) (u .0) (w .0) (v .0)) (r .some) (r .single) (r .vertex) ⌝ }
+{
+    let y = rarest(labels, n, offsets, entries, u, w, w);
+    let row = row_of(labels, n, offsets, entries, y);
+    let from = row.from;
+    let end = from + row.size;
+    sole_row(
         labels,
         n,
         offsets,
         entries,
         marks,
-        p,
         &entries[from..end],
         u,
         w,
-        lo,
-        n,
+        v,
     )
 }

@@ -17,17 +17,17 @@ returns c = search needs
 add-end : tie.Need-add-end
 add-end c = search needs
 
-mul-beside-row : tie.Need-mul-beside-row
-mul-beside-row c = search needs
+mul-part : tie.Need-mul-part
+mul-part c = search needs
 
-sub-beside-row : tie.Need-sub-beside-row
-sub-beside-row c = search needs
+sub-part : tie.Need-sub-part
+sub-part c = search needs
 
-part-beside-row-start : tie.Need-part-beside-row-start
-part-beside-row-start c = search needs
+part-part-start : tie.Need-part-part-start
+part-part-start c = search needs
 
-part-beside-row-end : tie.Need-part-beside-row-end
-part-beside-row-end c = search needs
+part-part-end : tie.Need-part-part-end
+part-part-end c = search needs
 
 beside-row-requires : tie.Need-beside-row-requires
 beside-row-requires c κs =
@@ -49,9 +49,9 @@ beyond-spec =
     row-of-requires
     returns
     add-end
-    mul-beside-row
-    sub-beside-row
-    part-beside-row-start
-    part-beside-row-end
+    mul-part
+    sub-part
+    part-part-start
+    part-part-end
     beside-row-requires
     returns-2)
