@@ -1,22 +1,23 @@
 -- Laws of the least of what is asked for, and what the rows of the index give.
 -- Assumes nothing.
-use Prim.Native.Nat.{ℕ, zero, suc, _+_, _*_, _-_, _/_, _≤_, _<_}
-use mathlib.Core.Path.{_≡_, refl, sym, _∙_, ap}
+use Prim.Native.Nat.{ℕ, suc, _+_, _≤_, _<_}
+use mathlib.Core.Path.{_≡_, refl, sym, _∙_}
 use mathlib.Core.Logic.{_⊎_, inl, inr, ⊎-elim}
 use mathlib.Core.Bool.{Bool, true, false, _&&_, _||_, true≢false, false≢true}
-use mathlib.Core.List.{List, [], _∷_, List·Memᴰ, List·Memᴰ·head, List·Memᴰ·tail}
+use mathlib.Core.List.{List, [], _∷_}
 use native.Mathlib.Omega.{arith}
 use native.Mathlib.Decide.{decLt}
 use borrow.Author.Tests.{eqb-true}
 use lib.Dec.{eqb}
 use lib.ListN.{length, getD}
-use Rattle.base.specs.Lists.{all, any, isIn}
+use Rattle.base.specs.Lists.{any, isIn}
 use Rattle.base.proofs.Lists.{both-left, both-right}
 use Rattle.space.specs.Mesh.{holds, together}
 use Rattle.space.specs.Arrays.{row4, meshOf, around}
 use Rattle.around.specs.Index.{hasAll, fewest}
 use Rattle.around.proofs.Around.{fewest-held, any-tets}
-use Rattle.ahead.specs.Ahead.{Beside, Closes, Least, ByOne, ByRow, VertexOf, BesideTet}
+use Rattle.marks.specs.Marks.{Marked, noted}
+use Rattle.ahead.specs.Ahead.{Closes, Least, ByOne, ByRow, VertexOf, FacetOf, BesideTet}
 
 module _ {P : ℕ → Type 0} {lo best : ℕ} where
   -- nothing that is asked for is less
@@ -35,17 +36,41 @@ module _ {P : ℕ → Type 0} {lo best : ℕ} where
     least = λ v p h. ⊎-elim (λ q. omega (arith, x .least v q h, y .most)) (λ q. y .least v q h) (f v p);
   }
 
+-- ── one vertex after the other ──
+
+-- what is asked for from lo on comes from v on
+pub record Passed (P : ℕ → Type 0) (lo v : ℕ) : Type 0 where
+  pub low : lo ≤ v
+  pub rest : (y : ℕ) → P y → lo ≤ y → v ≤ y
+
+module _ {P : ℕ → Type 0} {lo : ℕ} where
+  pub passed-none : Passed P lo lo
+  passed-none = record { low = omega arith; rest = λ y p h. h }
+
+  module _ {v : ℕ} (a : Passed P lo v) where
+    pub passed-on : (P v → ⊥) → Passed P lo (v + 1)
+    passed-on f = record {
+      low = omega (arith, a .low);
+      rest = λ y p h. elim (decLt v y) [ yes l ↦ omega arith | no l ↦ let e : y ≡ v = omega (arith, a .rest y p h) in absurd (f (rw e at p)) ];
+    }
+
+    pub passed-here : {best : ℕ} → v < best → Least P lo best v
+    passed-here h = record { most = omega arith; low = λ g. a .low; least = a .rest }
+
+    pub passed-all : {best : ℕ} → best ≤ v → Least P lo best best
+    passed-all h = least-stays (λ y p g. omega (arith, a .rest y p g))
+
 -- ── four vertices ──
 
 or-either : (a b : Bool) {P : Type 0} → (a || b) ≡ true → (a ≡ true → P) → (b ≡ true → P) → P
 or-either true b e f g = f refl
 or-either false b e f g = g e
 
-split-in : {asked : ℕ → ℕ → Type 0} (x : ℕ) (xs : List ℕ) (v : ℕ) → ByOne asked (x ∷ xs) v → asked x v ⊎ ByOne asked xs v
+pub split-in : {asked : ℕ → ℕ → Type 0} (x : ℕ) (xs : List ℕ) (v : ℕ) → ByOne asked (x ∷ xs) v → asked x v ⊎ ByOne asked xs v
 split-in {asked} x xs v b =
     or-either (eqb (b .via) x) (isIn (b .via) xs) (b .inside) (λ e. inl (rw (← eqb-true (b .via) x e) (b .asks))) (λ e. inr (record { via = b .via; inside = e; asks = b .asks }))
 
-none-in : {asked : ℕ → ℕ → Type 0} (v : ℕ) → ByOne asked [] v → ⊥
+pub none-in : {asked : ℕ → ℕ → Type 0} (v : ℕ) → ByOne asked [] v → ⊥
 none-in v b = false≢true (b .inside)
 
 pub least-four : {asked : ℕ → ℕ → Type 0} {x y z w lo best a b c r : ℕ} → Least (asked x) lo best a → Least (asked y) lo a b → Least (asked z) lo b c → Least (asked w) lo c r → Least (ByOne asked (x ∷ y ∷ z ∷ w ∷ [])) lo best r
@@ -60,17 +85,19 @@ vertex-in a = least-of a (λ v e. record { via = v; inside = e; asks = refl })
 
 -- ── a row ──
 
+module _ {asked : ℕ → ℕ → Type 0} {ls vs row : List ℕ} where
+  -- asked for by the tetrahedron at place i, or by one before it
+  pub earlier : {i : ℕ} (v : ℕ) → ByRow asked ls vs row (i + 1) v → ByRow asked ls vs row i v ⊎ ((hasAll ls vs (getD row i 0) ≡ true) × asked (getD row i 0) v)
+  earlier {i} v p = elim (decLt (p .place) i) [
+    | yes l ↦ inl (record { place = p .place; before = l; having = p .having; asks = p .asks })
+    | no l ↦ let e : p .place ≡ i = omega (arith, p .before) in inr (rw (← e) (p .having), rw (← e) (p .asks))
+  ]
+
 module _ {asked : ℕ → ℕ → Type 0} {ls vs row : List ℕ} {lo best : ℕ} where
   pub row-none : Least (ByRow asked ls vs row 0) lo best best
   row-none = least-stays (λ v p h. absurd (let z : ⊥ = omega (arith, p .before) in z))
 
   module _ {i b : ℕ} (a : Least (ByRow asked ls vs row i) lo best b) where
-    earlier : (v : ℕ) → ByRow asked ls vs row (i + 1) v → ByRow asked ls vs row i v ⊎ ((hasAll ls vs (getD row i 0) ≡ true) × asked (getD row i 0) v)
-    earlier v p = elim (decLt (p .place) i) [
-      | yes l ↦ inl (record { place = p .place; before = l; having = p .having; asks = p .asks })
-      | no l ↦ let e : p .place ≡ i = omega (arith, p .before) in inr (rw (← e) (p .having), rw (← e) (p .asks))
-    ]
-
     pub row-skip : hasAll ls vs (getD row i 0) ≡ false → Least (ByRow asked ls vs row (i + 1)) lo best b
     row-skip f = least-of a (λ v p. ⊎-elim (λ q. q) (λ q. absurd (true≢false (sym (q .0) ∙ f))) (earlier v p))
 
@@ -111,17 +138,20 @@ module _ (ls : List ℕ) (u x : ℕ) where
     pub having : hasAll ls (u ∷ x ∷ []) (getD (around ls (fewest ls u x x)) place 0) ≡ true
     pub inside : isIn v (row4 ls (getD (around ls (fewest ls u x x)) place 0)) ≡ true
 
-  stands : (v : ℕ) → together (meshOf [] ls []) (u ∷ x ∷ v ∷ []) ≡ true → Stands v
+  pub stands : (v : ℕ) → together (meshOf [] ls []) (u ∷ x ∷ v ∷ []) ≡ true → Stands v
   unfolding together
   stands v e =
       let a = any-place (hasAll ls (u ∷ x ∷ v ∷ [])) row (any-tets ls [] (fewest ls u x x) (holds (u ∷ x ∷ v ∷ [])) (rarer-held v) ∙ e) in
       let b = parts v (getD row (a .0) 0) (a .2) in
       record { place = a .0; before = a .1; having = b .0; inside = b .1 }
 
-  pub beside-least : {lo best r : ℕ} → Least (ByRow (VertexOf ls) ls (u ∷ x ∷ []) (around ls (fewest ls u x x)) (length (around ls (fewest ls u x x)))) lo best r → (w : ℕ) → Least (Beside ls u w x) lo best r
-  beside-least a w = least-of a (λ v b. let s = stands v (b .facet) in record { place = s .place; before = s .before; having = s .having; asks = s .inside })
+  pub facing-least : {lo best r : ℕ} → Least (ByRow (VertexOf ls) ls (u ∷ x ∷ []) (around ls (fewest ls u x x)) (length (around ls (fewest ls u x x)))) lo best r → Least (FacetOf ls u x) lo best r
+  facing-least a = least-of a (λ v f. let s = stands v f in record { place = s .place; before = s .before; having = s .having; asks = s .inside })
 
-  pub closes-least : {lo best r : ℕ} → Least (ByRow (BesideTet ls u x) ls (u ∷ x ∷ []) (around ls (fewest ls u x x)) (length (around ls (fewest ls u x x)))) lo best r → Least (Closes ls u x) lo best r
+  pub noted-least : {ms : List ℕ} {lo best r : ℕ} → Marked ls ms → Least (λ v. noted ms u x v ≡ true) lo best r → Least (FacetOf ls u x) lo best r
+  noted-least m a = least-of a (λ v f. m .facets u x v f)
+
+  pub closes-least : {p lo best r : ℕ} → Least (ByRow (BesideTet ls p u x) ls (u ∷ x ∷ []) (around ls (fewest ls u x x)) (length (around ls (fewest ls u x x)))) lo best r → Least (Closes ls p u x) lo best r
   closes-least a = least-of a (λ v c.
       let s = stands (c .via) (c .near) in
       record { place = s .place; before = s .before; having = s .having; asks = record { via = c .via; inside = s .inside; asks = c .far } })

@@ -61,6 +61,10 @@ pub record ByRow (asked : ℕ → ℕ → Type 0) (ls vs row : List ℕ) (i v : 
 abbrev pub VertexOf : List ℕ → ℕ → ℕ → Type 0
 VertexOf ls e v = isIn v (row4 ls e) ≡ true
 
+-- v makes a facet with u and x
+abbrev pub FacetOf : List ℕ → ℕ → ℕ → ℕ → Type 0
+FacetOf ls u x v = together (meshOf [] ls []) (u ∷ x ∷ v ∷ []) ≡ true
+
 -- v makes a facet with u and a vertex of tetrahedron e that is none of u, w and p
 abbrev pub BesideTet : List ℕ → ℕ → ℕ → ℕ → ℕ → ℕ → Type 0
 BesideTet ls p u w e v = ByOne (Beside ls p u w) (row4 ls e) v

@@ -2,7 +2,7 @@
 use mathlib.Core.Path.{sym, _∙_}
 use mathlib.Core.List.{[], _∷_}
 use mathlib.Core.Logic.{⊎-elim}
-use Prim.Native.Nat.{_-_, _≤_}
+use Prim.Native.Nat.{_-_}
 use native.Mathlib.Omega.{arith}
 use lib.ListN.{length}
 use Rattle.ahead.specs.Ahead.{Least, ByRow, BesideTet}
@@ -11,10 +11,10 @@ use Rattle.ahead.proofs.beside_row.Statement.{statement}
 use Rattle.ahead.proofs.beside_row.Tie as tie
 
 abbrev Inv-loop : tie.InvT-loop
-Inv-loop labels n offsets entries row u w lo best b₀ k₀ b k = Least (ByRow (BesideTet labels (u .0) (w .0)) labels (u .0 ∷ w .0 ∷ []) row k) lo best b
+Inv-loop labels n offsets entries marks p row u w lo best b₀ k₀ b k = Least (ByRow (BesideTet labels (p .0) (u .0) (w .0)) labels (u .0 ∷ w .0 ∷ []) row k) lo best b
 
 abbrev μ-loop : tie.MeasureT-loop
-μ-loop labels n offsets entries row u w lo best b₀ k₀ b k = length row - k
+μ-loop labels n offsets entries marks p row u w lo best b₀ k₀ b k = length row - k
 
 loop-holds : tie.Need-loop-holds Inv-loop μ-loop
 loop-holds c = row-none
@@ -27,14 +27,15 @@ shared-slice-read-e c = omega arith
 
 tet-has2-requires : tie.Need-tet-has2-requires Inv-loop μ-loop
 tet-has2-requires c κs =
-    let s = c .before .before .before .before .before .before .before in
+    let s = c .before .before .before .before .before .before .before .before in
     omega (arith, s .pre .1 .below (c .before .before .loop .k) (omega arith))
 
 beside-tet-requires : tie.Need-beside-tet-requires Inv-loop μ-loop
 beside-tet-requires c κs =
     let d = c .before .before in
-    let s = d .before .before .before .before .before .before .before in
-    (s .pre .0, omega (arith, s .pre .1 .below (d .before .before .loop .k) (omega arith)))
+    let l = d .before .before .loop in
+    let s = d .before .before .before .before .before .before .before .before in
+    ((s .pre .0 .0, (s .pre .0 .1 .0, omega (arith, s .pre .0 .1 .1, l .inv .most))), omega (arith, s .pre .1 .below (l .k) (omega arith)))
 
 add-k : tie.Need-add-k Inv-loop μ-loop
 add-k c = omega arith

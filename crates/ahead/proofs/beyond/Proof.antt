@@ -11,30 +11,34 @@ rarest-requires c κs = search needs
 row-of-requires : tie.Need-row-of-requires
 row-of-requires c κs = search needs
 
+returns : tie.Need-returns
+returns c = search needs
+
 add-end : tie.Need-add-end
 add-end c = search needs
 
-mul-beside-row : tie.Need-mul-beside-row
-mul-beside-row c = search needs
+mul-part : tie.Need-mul-part
+mul-part c = search needs
 
-sub-beside-row : tie.Need-sub-beside-row
-sub-beside-row c = search needs
+sub-part : tie.Need-sub-part
+sub-part c = search needs
 
-part-beside-row-start : tie.Need-part-beside-row-start
-part-beside-row-start c = search needs
+part-part-start : tie.Need-part-part-start
+part-part-start c = search needs
 
-part-beside-row-end : tie.Need-part-beside-row-end
-part-beside-row-end c = search needs
+part-part-end : tie.Need-part-part-end
+part-part-end c = search needs
 
 beside-row-requires : tie.Need-beside-row-requires
 beside-row-requires c κs =
-    let d = c .before .before in
-    (d .before .before .before .before .before .pre, slice-within (d .row-of .ensures))
+    let d = c .before .before .before .before in
+    let s = d .before .before .before .before .before .before .pre in
+    ((s .0, (s .1 .0, s .1 .1 .0)), slice-within (d .row-of .ensures))
 
-returns : tie.Need-returns
-returns c =
-    let d = c .before .before .before in
-    let s = d .before .before .before .before .before .args in
+returns-2 : tie.Need-returns-2
+returns-2 c =
+    let d = c .before .before .before .before .before in
+    let s = d .before .before .before .before .before .before .args in
     closes-least (s .labels .now) (s .u .0) (s .w .0) (rw (row-slice (d .row-of .ensures), d .before .rarest .ensures) at (c .beside-row .ensures))
 
 pub beyond-spec : {M : Type 1} → statement M
@@ -43,10 +47,11 @@ beyond-spec =
     (tie.spec
     rarest-requires
     row-of-requires
+    returns
     add-end
-    mul-beside-row
-    sub-beside-row
-    part-beside-row-start
-    part-beside-row-end
+    mul-part
+    sub-part
+    part-part-start
+    part-part-end
     beside-row-requires
-    returns)
+    returns-2)
