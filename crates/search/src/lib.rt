@@ -1,6 +1,8 @@
 // The search for the next cell of a kind: the least tuple after a tuple that is a cell in least form, by an odometer over one tuple with a level.
 // A tuple is kept in search order; x is the row of a place in the tables of the levels.
 use ahead::beyond;
+use ahead::lower;
+use ahead::sole;
 use cells::is_sound;
 use marks::faces_noted;
 use neighbours::Row;
@@ -30,7 +32,7 @@ ghost use Rattle.ahead.specs.Ahead.{Least};
 ghost use Rattle.search.specs.Levels.{base, lesser, joined, also, part, levelOf};
 ghost use Rattle.search.specs.Prune.{comesAfter, fits};
 ghost use Rattle.search.specs.Ready.{Ready, Cut, Rises, entriesOf, Served, Met, Begins};
-ghost use Rattle.search.specs.Ahead.{look, Follows, Goes, Stops};
+ghost use Rattle.search.specs.Ahead.{look, ClosesPair, Follows, Aims, Fit, Goes, Stops};
 
 // The tuple that was found, in search order.
 pub struct Found {
@@ -585,30 +587,16 @@ fn look_of(x: usize, i: usize) -> usize
     AHEAD[4 * x + i]
 }
 
-// The least vertex from lo on that can follow both pairs of row x, or n; one that follows the second alone may come before it.
-fn leap(
-    labels: &[u16],
-    n: usize,
-    offsets: &[u16],
-    entries: &[u16],
-    t: [u16; 8],
-    x: usize,
-    lo: usize,
-) -> usize
-    requires { ⌜ Indexed (now labels) n (now offsets) (now entries) × (x < 19) ⌝ }
-    ensures { λ r. ⌜ Least (Follows (now (labels .entry)) t x) lo n r ⌝ }
-{
-    let u = t[look_of(x, 0)];
-    let w = t[look_of(x, 1)];
-    let v = beyond(labels, n, offsets, entries, Vertex(u), Vertex(w), lo);
-    let y = t[look_of(x, 2)];
-    let z = t[look_of(x, 3)];
-    beyond(labels, n, offsets, entries, Vertex(y), Vertex(z), v)
+// What the look-ahead at a place goes by: whether any cell goes on, whether both pairs of the row are asked for, and the vertex that may not link them.
+struct Aim {
+    some: bool,
+    both: bool,
+    p: u16,
 }
 
-// The tuple goes on with v at place d: where this is false, no cell does. The cheap test comes first.
-fn goes_on(
-    coords: &[i64],
+// At row 3 the face of the first three corners needs a vertex that links them: without one no cell goes on, and a sole one is a corner of that face
+// and links no other face of the place. At row 11 it is the vertex most likely to link both side faces, which only place 3 itself may.
+fn aim_at(
     labels: &[u16],
     n: usize,
     offsets: &[u16],
@@ -616,20 +604,121 @@ fn goes_on(
     marks: &[u8],
     t: [u16; 8],
     x: usize,
+) -> Aim
+    requires { ⌜ Indexed (now labels) n (now offsets) (now entries) × Marked (now labels) (now marks) ⌝ }
+    ensures { λ r. ⌜ Aims (now (labels .entry)) t x (r .some) (r .both) (r .p) ⌝ }
+{
+    if x != 3 {
+        if x != 11 {
+            return Aim {
+                some: true,
+                both: true,
+                p: 65535,
+            };
+        }
+    }
+    let q = sole(
+        labels,
+        n,
+        offsets,
+        entries,
+        marks,
+        Vertex(t[0]),
+        Vertex(t[1]),
+        Vertex(t[2]),
+    );
+    if x == 11 {
+        return Aim {
+            some: true,
+            both: false,
+            p: q.vertex,
+        };
+    }
+    Aim {
+        some: q.some,
+        both: q.single,
+        p: q.vertex,
+    }
+}
+
+// The least vertex from lo on that can follow the pair at the entries i and i + 1 of row x, or n; p may not link them.
+fn reach(
+    labels: &[u16],
+    n: usize,
+    offsets: &[u16],
+    entries: &[u16],
+    marks: &[u8],
+    t: [u16; 8],
+    x: usize,
+    i: usize,
+    p: Vertex,
+    lo: usize,
+) -> usize
+    requires { ⌜ Indexed (now labels) n (now offsets) (now entries) × (Marked (now labels) (now marks) × ((n ≤ 512) × (lo ≤ n))) ⌝ }
+    requires { ⌜ (x < 19) × (i < 3) ⌝ }
+    ensures { λ r. ⌜ Least (ClosesPair (now (labels .entry)) t x i (p .0)) lo n r ⌝ }
+{
+    let u = t[look_of(x, i)];
+    let w = t[look_of(x, i + 1)];
+    beyond(
+        labels,
+        n,
+        offsets,
+        entries,
+        marks,
+        p,
+        Vertex(u),
+        Vertex(w),
+        lo,
+    )
+}
+
+// The least vertex from lo on that can follow by the aim, or n; where both pairs are asked for, one that follows the second alone may come before it.
+fn leap(
+    labels: &[u16],
+    n: usize,
+    offsets: &[u16],
+    entries: &[u16],
+    marks: &[u8],
+    t: [u16; 8],
+    x: usize,
+    aim: Aim,
+    lo: usize,
+) -> usize
+    requires { ⌜ Indexed (now labels) n (now offsets) (now entries) × (Marked (now labels) (now marks) × ((n ≤ 512) × (lo ≤ n))) ⌝ }
+    requires { ⌜ x < 19 ⌝ }
+    ensures { λ r. ⌜ Least (Follows (now (labels .entry)) t x (aim .p) (aim .both)) lo n r ⌝ }
+{
+    let p = aim.p;
+    let v = reach(labels, n, offsets, entries, marks, t, x, 0, Vertex(p), lo);
+    if aim.both {
+        return reach(labels, n, offsets, entries, marks, t, x, 2, Vertex(p), v);
+    }
+    let r = reach(labels, n, offsets, entries, marks, t, x, 2, Vertex(p), lo);
+    if v < r {
+        return lower(Vertex(p), lo, v);
+    }
+    lower(Vertex(p), lo, r)
+}
+
+// The tuple goes on with v at place d: where this is false, no cell does.
+fn goes_on(
+    coords: &[i64],
+    marks: &[u8],
+    n: usize,
+    t: [u16; 8],
+    x: usize,
     d: usize,
     v: usize,
 ) -> bool
-    requires { ⌜ (Close (now coords) × Indexed (now labels) n (now offsets) (now entries)) × ((n ≤ 512) × Marked (now labels) (now marks)) ⌝ }
+    requires { ⌜ Close (now coords) × ((length (now marks) ≡ 131072) × (n ≤ 512)) ⌝ }
     requires { ⌜ (x < 19) × (d < 8) ⌝ }
-    ensures { λ r. ⌜ Stops (Goes (now (coords .entry)) (now (labels .entry)) (now (marks .entry)) x d t) n v r ⌝ }
+    ensures { λ r. ⌜ Stops (Fit (now (coords .entry)) (now (marks .entry)) x d t) n v r ⌝ }
 {
     if n <= v {
         return false;
     }
-    if !tries(coords, marks, t, x, d, 0, Vertex(v as u16)) {
-        return false;
-    }
-    leap(labels, n, offsets, entries, t, x, v) == v
+    tries(coords, marks, t, x, d, 0, Vertex(v as u16))
 }
 
 // A vertex from lo on with which the tuple goes on at place d, or n. No cell is left out before it.
@@ -645,14 +734,18 @@ fn hunt(
     d: usize,
     lo: usize,
 ) -> usize
-    requires { ⌜ (Close (now coords) × Indexed (now labels) n (now offsets) (now entries)) × ((n ≤ 512) × Marked (now labels) (now marks)) ⌝ }
+    requires { ⌜ (Close (now coords) × Indexed (now labels) n (now offsets) (now entries)) × (Marked (now labels) (now marks) × (n ≤ 512)) ⌝ }
     requires { ⌜ (x < 19) × (d < 8) ⌝ }
     ensures { λ r. ⌜ Least (Goes (now (coords .entry)) (now (labels .entry)) (now (marks .entry)) x d t) lo n r ⌝ }
 {
+    let aim = aim_at(labels, n, offsets, entries, marks, t, x);
+    if !aim.some {
+        return n;
+    }
     let mut v = lo;
     while v < n {
-        let r = leap(labels, n, offsets, entries, t, x, v);
-        if goes_on(coords, labels, n, offsets, entries, marks, t, x, d, r) {
+        let r = leap(labels, n, offsets, entries, marks, t, x, aim, v);
+        if goes_on(coords, marks, n, t, x, d, r) {
             return r;
         }
         v = r + 1;

@@ -1,5 +1,5 @@
 -- `search::goes_on` meets its contract. Assumes nothing.
-use Rattle.search.proofs.Hunting.{stops-fit, stops-leap}
+use Rattle.search.proofs.Hunting.{stops-fit}
 use borrow.Author.Needs.{needs}
 use Rattle.search.proofs.goes_on.Statement.{statement}
 use Rattle.search.proofs.goes_on.Tie as tie
@@ -7,21 +7,14 @@ use Rattle.search.proofs.goes_on.Tie as tie
 returns : tie.Need-returns
 returns c = search needs
 
-cast-t12 : tie.Need-cast-t12
-cast-t12 c = search needs
+cast-t9 : tie.Need-cast-t9
+cast-t9 c = search needs
 
 tries-requires : tie.Need-tries-requires
 tries-requires c κs = search needs
 
 returns-2 : tie.Need-returns-2
-returns-2 c = stops-fit (c .before .tries .ensures) (c .if2 .taken)
-
-leap-requires : tie.Need-leap-requires
-leap-requires c κs = search needs
-
-returns-3 : tie.Need-returns-3
-returns-3 c = stops-leap (c .leap .ensures)
+returns-2 c = let a = c .before .before .before .args in stops-fit (a .coords .now) (a .marks .now) (a .x) (a .d) (a .t) (c .tries .ensures)
 
 pub goes-on-spec : {M : Type 1} → statement M
-goes-on-spec =
-    tie.close (tie.spec returns cast-t12 tries-requires returns-2 leap-requires returns-3)
+goes-on-spec = tie.close (tie.spec returns cast-t9 tries-requires returns-2)

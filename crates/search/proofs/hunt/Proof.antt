@@ -2,32 +2,45 @@
 use Prim.Native.Nat.{_-_}
 use native.Mathlib.Omega.{arith}
 use Rattle.search.specs.Ahead.{Goes}
-use Rattle.search.proofs.Hunting.{Passed, passed-none, passed-next, hunted, hunted-none, hunt-less}
+use Rattle.search.proofs.Hunting.{Passed, passed-none, passed-next, hunted, hunted-none, hunt-less, hunt-none, goes-follows, stops-goes}
 use Rattle.search.proofs.hunt.Statement.{statement}
 use Rattle.search.proofs.hunt.Tie as tie
 
 abbrev Inv-loop : tie.InvT-loop
-Inv-loop coords labels n offsets entries marks t x d lo v₀ v = Passed (Goes coords labels marks x d t) n lo v
+Inv-loop coords labels n offsets entries marks t x d lo aim v₀ v = Passed (Goes coords labels marks x d t) n lo v
 
 abbrev μ-loop : tie.MeasureT-loop
-μ-loop coords labels n offsets entries marks t x d lo v₀ v = n - v
+μ-loop coords labels n offsets entries marks t x d lo aim v₀ v = n - v
+
+aim-at-requires : tie.Need-aim-at-requires Inv-loop μ-loop
+aim-at-requires c κs = let z = c .before .before .before .before in (z .pre .0 .0 .1, z .pre .0 .1 .0)
+
+returns : tie.Need-returns Inv-loop μ-loop
+returns c = hunt-none (c .before .before .aim-at .ensures) (c .if1 .taken)
 
 loop-holds : tie.Need-loop-holds Inv-loop μ-loop
 loop-holds c = passed-none
 
 leap-requires : tie.Need-leap-requires Inv-loop μ-loop
-leap-requires c κs = let s = c .before .before .before .before .before .before in (s .pre .0 .0 .1, s .pre .1 .0)
+leap-requires c κs =
+    let z = c .before .before .before .before .before .before .before .before .before in
+    ((z .pre .0 .0 .1, (z .pre .0 .1 .0, (z .pre .0 .1 .1, omega arith))), z .pre .1 .0)
 
 goes-on-requires : tie.Need-goes-on-requires Inv-loop μ-loop
-goes-on-requires c κs = c .before .before .before .before .before .before .before .pre
+goes-on-requires c κs =
+    let z = c .before .before .before .before .before .before .before .before .before .before in
+    ((z .pre .0 .0 .0, (z .pre .0 .1 .0 .size, z .pre .0 .1 .1)), z .pre .1)
 
-returns : tie.Need-returns Inv-loop μ-loop
-returns c =
+returns-2 : tie.Need-returns-2 Inv-loop μ-loop
+returns-2 c =
     let b = c .before .before in
-    hunted (b .before .before .loop .inv) (λ y g. g .follows) (b .leap .ensures)
+    let l = b .before .before in
+    hunted (l .loop .inv) (goes-follows (l .before .before .before .aim-at .ensures)) (b .leap .ensures)
 
 add-v : tie.Need-add-v Inv-loop μ-loop
-add-v c = omega arith
+add-v c =
+    let z = c .before .before .before .before .before .before .before .before .before .before .before .before in
+    omega (arith, c .before .before .leap .ensures .most, z .pre .0 .1 .1)
 
 loop-less : tie.Need-loop-less Inv-loop μ-loop
 loop-less c = hunt-less (c .before .before .leap .ensures) (omega arith) (omega arith)
@@ -35,10 +48,11 @@ loop-less c = hunt-less (c .before .before .leap .ensures) (omega arith) (omega 
 loop-again : tie.Need-loop-again Inv-loop μ-loop
 loop-again c =
     let b = c .before .before in
-    passed-next (b .before .before .loop .inv) (λ y g. g .follows) (b .leap .ensures) (omega arith) (c .before .goes-on .ensures) (c .if1 .left)
+    let l = b .before .before in
+    passed-next (l .loop .inv) (goes-follows (l .before .before .before .aim-at .ensures)) (b .leap .ensures) (omega arith) (stops-goes _ _ _ _ _ (c .before .goes-on .ensures)) (c .if2 .left)
 
-returns-2 : tie.Need-returns-2 Inv-loop μ-loop
-returns-2 c = hunted-none (c .before .loop .inv) (omega arith)
+returns-3 : tie.Need-returns-3 Inv-loop μ-loop
+returns-3 c = hunted-none (c .before .loop .inv) (omega arith)
 
 pub hunt-spec : {M : Type 1} → statement M
 hunt-spec =
@@ -46,11 +60,13 @@ hunt-spec =
     (tie.spec
     Inv-loop
     μ-loop
+    aim-at-requires
+    returns
     loop-holds
     leap-requires
     goes-on-requires
-    returns
+    returns-2
     add-v
     loop-less
     loop-again
-    returns-2)
+    returns-3)

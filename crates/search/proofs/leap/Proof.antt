@@ -1,74 +1,48 @@
 -- `search::leap` meets its contract. Assumes nothing.
-use Rattle.search.proofs.Hunting.{leap-both}
+use native.Mathlib.Omega.{arith}
+use Rattle.search.proofs.Hunting.{leap-each, leap-some}
 use borrow.Author.Needs.{needs}
 use Rattle.search.proofs.leap.Statement.{statement}
 use Rattle.search.proofs.leap.Tie as tie
 
-look-of-requires : tie.Need-look-of-requires
-look-of-requires c κs = search needs
+reach-requires : tie.Need-reach-requires
+reach-requires c κs = search needs
 
-mul-u : tie.Need-mul-u
-mul-u c = search needs
-
-array-read-u : tie.Need-array-read-u
-array-read-u c = search needs
-
-look-of-requires-2 : tie.Need-look-of-requires-2
-look-of-requires-2 c κs = search needs
-
-mul-w : tie.Need-mul-w
-mul-w c = search needs
-
-array-read-w : tie.Need-array-read-w
-array-read-w c = search needs
-
-beyond-requires : tie.Need-beyond-requires
-beyond-requires c κs = search needs
-
-look-of-requires-3 : tie.Need-look-of-requires-3
-look-of-requires-3 c κs = search needs
-
-mul-y : tie.Need-mul-y
-mul-y c = search needs
-
-array-read-y : tie.Need-array-read-y
-array-read-y c = search needs
-
-look-of-requires-4 : tie.Need-look-of-requires-4
-look-of-requires-4 c κs = search needs
-
-mul-z : tie.Need-mul-z
-mul-z c = search needs
-
-array-read-z : tie.Need-array-read-z
-array-read-z c = search needs
-
-beyond-requires-2 : tie.Need-beyond-requires-2
-beyond-requires-2 c κs = search needs
+reach-requires-2 : tie.Need-reach-requires-2
+reach-requires-2 c κs = search needs
 
 returns : tie.Need-returns
-returns c =
-    let l3 = c .before .before in
-    let b = l3 .before in
-    let l1 = b .before .before in
-    leap-both (rw (l1 .look-of .ensures .0, b .before .look-of2 .ensures .0) at (b .beyond .ensures)) (rw (l3 .look-of3 .ensures .0, c .before .look-of4 .ensures .0) at (c .beyond2 .ensures))
+returns c = leap-each (c .before .before .reach .ensures) (c .before .if1 .taken) (c .reach2 .ensures)
+
+reach-requires-3 : tie.Need-reach-requires-3
+reach-requires-3 c κs = search needs
+
+lower-requires : tie.Need-lower-requires
+lower-requires c κs = search needs
+
+returns-2 : tie.Need-returns-2
+returns-2 c =
+    let r = c .before .before in
+    let v = r .before .before .reach .ensures in
+    leap-some v (r .before .if1 .left) (r .reach3 .ensures) (omega arith) (omega arith) (v .low) (c .lower .ensures)
+
+lower-requires-2 : tie.Need-lower-requires-2
+lower-requires-2 c κs = search needs
+
+returns-3 : tie.Need-returns-3
+returns-3 c =
+    let r = c .before .before in
+    leap-some (r .before .before .reach .ensures) (r .before .if1 .left) (r .reach3 .ensures) (omega arith) (omega arith) (r .reach3 .ensures .low) (c .lower2 .ensures)
 
 pub leap-spec : {M : Type 1} → statement M
 leap-spec =
     tie.close
     (tie.spec
-    look-of-requires
-    mul-u
-    array-read-u
-    look-of-requires-2
-    mul-w
-    array-read-w
-    beyond-requires
-    look-of-requires-3
-    mul-y
-    array-read-y
-    look-of-requires-4
-    mul-z
-    array-read-z
-    beyond-requires-2
-    returns)
+    reach-requires
+    reach-requires-2
+    returns
+    reach-requires-3
+    lower-requires
+    returns-2
+    lower-requires-2
+    returns-3)

@@ -6,7 +6,7 @@ use native.Mathlib.Omega.{arith}
 use Rattle.search.specs.Levels.{base, joined, also}
 use Rattle.search.proofs.Tables.{row-in}
 use Rattle.search.proofs.Joined.{leaf-joined, leaf-also}
-use Rattle.search.proofs.Scanning.{both-serve, either-serves, meet-skips}
+use Rattle.search.proofs.Scanning.{both-serve, either-serves, meet-skips, points-are}
 use Rattle.search.proofs.Hunting.{hunt-skips}
 use borrow.Author.Needs.{needs}
 use Rattle.search.proofs.seek.Statement.{statement}
@@ -61,7 +61,7 @@ hunt-requires : tie.Need-hunt-requires
 hunt-requires c κs =
     let z = c .before .before .before .before .before .before .before .before .before .before .before .before .before .before in
     let i = row-in (z .args .kind) (z .args .d) (z .pre .1) in
-    (((z .pre .0 .close, z .pre .0 .indexed), (z .pre .0 .few, z .pre .0 .marked)), (omega (arith, i, c .before .before .before .before .before .before .before .base-of .ensures .0), i .1))
+    (((z .pre .0 .close, z .pre .0 .indexed), (z .pre .0 .marked, z .pre .0 .few)), (omega (arith, i, c .before .before .before .before .before .before .before .base-of .ensures .0), i .1))
 
 returns-2 : tie.Need-returns-2
 returns-2 c =
@@ -73,7 +73,7 @@ returns-2 c =
     let q : b .base-of .result + a .d ≡ base (a .kind) + a .d = ap (λ y. y + a .d) (b .base-of .ensures .0) in
     let late = c .before .before .is-hub .ensures (c .before .if2 .taken) in
     λ ps.
-    hunt-skips (a .coords .now) (a .labels .now) ps (z .pre .0 .marked) (a .kind) (a .t9) (a .d) (z .pre .1) (omega (arith, row-in (a .kind) (a .d) (z .pre .1))) late (rw q at (c .hunt .ensures))
+    hunt-skips (a .coords .now) (a .labels .now) ps (z .pre .0 .marked) (omega (arith, points-are (z .pre .0) (a .kind) (a .t9) ps, z .pre .0 .few)) (a .kind) (a .t9) (a .d) (z .pre .1) (omega (arith, row-in (a .kind) (a .d) (z .pre .1))) late (rw q at (c .hunt .ensures))
 
 partner-requires : tie.Need-partner-requires
 partner-requires c κs = search needs
