@@ -1,12 +1,12 @@
 -- The next number that passes a test, looked for among the numbers of a row, and around the corners of a tuple.
 -- Assumes nothing.
-use Prim.Native.Nat.{ℕ, _≤_, _<_}
+use Prim.Native.Nat.{ℕ, _/_, _≤_, _<_}
 use mathlib.Core.Path.{_≡_}
 use mathlib.Core.Bool.{Bool, true, false}
 use mathlib.Core.List.{List, [], _∷_}
 use mathlib.Core.Logic.{_⊎_}
 use lib.ListN.{length, getD}
-use Rattle.base.specs.Lists.{isIn}
+use Rattle.base.specs.Lists.{all, isIn}
 use Rattle.space.specs.Arrays.{row4}
 use Rattle.filling.specs.declared.Crowd.{Crowd}
 
@@ -31,9 +31,13 @@ pub record Next (b : ℕ → Bool) (ls c : List ℕ) (lo hi k : ℕ) (out : List
   pub is : r < hi → (lo ≤ r) × (b r ≡ true)
   pub none : (i j : ℕ) → i < k → isIn (getD c i 0) out ≡ false → isIn (getD c i 0) (row4 ls j) ≡ true → lo ≤ j → j < r → b j ≡ false
 
--- the three vertices left out
+-- the four vertices left out
 abbrev pub leftOut : Crowd → List ℕ
-leftOut w = w .a ∷ w .b ∷ w .d ∷ []
+leftOut w = w .a ∷ w .b ∷ w .d ∷ w .e ∷ []
+
+-- no tetrahedron that passes b has all its vertices among those left out
+pub record Aside (b : ℕ → Bool) (ls out : List ℕ) : Type 0 where
+  pub apart : (j : ℕ) → j < length ls / 4 → b j ≡ true → all (λ v. isIn v out) (row4 ls j) ≡ false
 
 -- one vertex more, with this row: it is left out, or the least is taken with those of its row
 pub record Visited (b : ℕ → Bool) (lo hi : ℕ) (out : List ℕ) (v : ℕ) (row : List ℕ) (r : ℕ) : Type 0 where

@@ -1,7 +1,7 @@
 // Which tetrahedra a cell has, and whether they fill it and are of one part: conditions 5 and 6.
 ghost use mathlib.Core.Path.{_≡_};
 ghost use mathlib.Core.List.{[], _∷_};
-ghost use Prim.Native.Nat.{_/_, _<_};
+ghost use Prim.Native.Nat.{_/_, _≤_, _<_};
 ghost use lib.Dec.{eqb};
 ghost use lib.ListN.{length, getD};
 ghost use Rattle.base.specs.Lists.{all, any, count, isIn};
@@ -12,7 +12,7 @@ ghost use Rattle.templates.specs.Tables.{at};
 ghost use Rattle.cells.specs.Cells.{noneOrTwo, isDiagonal, belongs, numbersOf};
 ghost use Rattle.cells.specs.Rows.{row3, threes, fours, quadsOf};
 ghost use Rattle.filling.specs.Found.{Found, pushed};
-ghost use Rattle.filling.specs.Next.{Hit, Rising, Least, leftOut, Visited, NextOf};
+ghost use Rattle.filling.specs.Next.{Hit, Rising, Least, leftOut, Aside, Visited, NextOf};
 ghost use Rattle.filling.specs.Filled.{sidesIn, once, paired, covers, fills, onePart};
 use around::row_of;
 use cells::corners3;
@@ -130,75 +130,83 @@ fn least_in(labels: &[u16], row: &[u16], lo: usize, hi: usize, c: &[u16], quads:
     hi
 }
 
-// Three corners of a cell, those with the most tetrahedra, and how many these are.
+// The corners of one quadrilateral of a cell, and how many tetrahedra they have.
 struct Crowd {
     a: u16,
     b: u16,
     d: u16,
-    most: usize,
-    more: usize,
-    many: usize,
+    e: u16,
+    size: usize,
 }
 
-// With one corner more, where it has more than one of them.
-fn crowded_by(w: Crowd, v: Vertex, size: usize) -> Crowd {
-    let v = v.0;
-    if w.most < size {
-        return Crowd {
-            a: v,
-            b: w.a,
-            d: w.b,
-            most: size,
-            more: w.most,
-            many: w.more,
-        };
-    }
-    if w.more < size {
-        return Crowd {
-            a: w.a,
-            b: v,
-            d: w.b,
-            most: w.most,
-            more: size,
-            many: w.more,
-        };
-    }
-    if w.many < size {
-        return Crowd {
-            a: w.a,
-            b: w.b,
-            d: v,
-            most: w.most,
-            more: w.more,
-            many: size,
-        };
-    }
-    w
-}
-
-// The three corners to leave out. Any three would do: the choice is a matter of speed alone.
-fn crowd_of(labels: &[u16], n: usize, offsets: &[u16], entries: &[u16], c: &[u16]) -> Crowd
+// How many tetrahedra a vertex has.
+fn size_of(labels: &[u16], n: usize, offsets: &[u16], entries: &[u16], v: Vertex) -> usize
     requires { ⌜ Indexed (now labels) n (now offsets) (now entries) ⌝ }
+    ensures { λ r. ⌜ r ≤ length (now (entries .entry)) ⌝ }
+{
+    let row = row_of(labels, n, offsets, entries, v);
+    row.size
+}
+
+// The corners of quadrilateral i. A tetrahedron on these alone is not one of the cell's.
+fn crowd_at(
+    labels: &[u16],
+    n: usize,
+    offsets: &[u16],
+    entries: &[u16],
+    c: &[u16],
+    quads: &[u8],
+    i: usize,
+) -> Crowd
+    requires { ⌜ Indexed (now labels) n (now offsets) (now entries) × (i < length (now quads) / 4) ⌝ }
+    ensures { λ r. ⌜ Aside (λ j. belongs (meshOf [] (now (labels .entry)) []) (quadsOf (now (quads .entry))) (now (c .entry)) (tetAt (now (labels .entry)) [] j)) (now (labels .entry)) (leftOut r) ⌝ }
+{
+    let q = corners4(c, quads, i);
+    let x = size_of(labels, n, offsets, entries, Vertex(q[0]));
+    let y = size_of(labels, n, offsets, entries, Vertex(q[1]));
+    let z = size_of(labels, n, offsets, entries, Vertex(q[2]));
+    let w = size_of(labels, n, offsets, entries, Vertex(q[3]));
+    Crowd {
+        a: q[0],
+        b: q[1],
+        d: q[2],
+        e: q[3],
+        size: x + y + z + w,
+    }
+}
+
+// The corners to leave out: of the quadrilaterals, one whose corners have the most. The choice is a matter of speed alone.
+fn crowd_of(
+    labels: &[u16],
+    n: usize,
+    offsets: &[u16],
+    entries: &[u16],
+    c: &[u16],
+    quads: &[u8],
+) -> Crowd
+    requires { ⌜ Indexed (now labels) n (now offsets) (now entries) ⌝ }
+    ensures { λ r. ⌜ Aside (λ j. belongs (meshOf [] (now (labels .entry)) []) (quadsOf (now (quads .entry))) (now (c .entry)) (tetAt (now (labels .entry)) [] j)) (now (labels .entry)) (leftOut r) ⌝ }
 {
     let mut w = Crowd {
         a: 65535,
         b: 65535,
         d: 65535,
-        most: 0,
-        more: 0,
-        many: 0,
+        e: 65535,
+        size: 0,
     };
-    let mut k = 0;
-    while k < c.len() {
-        let v = c[k];
-        let row = row_of(labels, n, offsets, entries, Vertex(v));
-        w = crowded_by(w, Vertex(v), row.size);
-        k += 1;
+    let m = quads.len() / 4;
+    let mut i = 0;
+    while i < m {
+        let y = crowd_at(labels, n, offsets, entries, c, quads, i);
+        if w.size < y.size {
+            w = y;
+        }
+        i += 1;
     }
     w
 }
 
-// The vertex is one of the three.
+// The vertex is one of the four.
 fn is_crowded(w: Crowd, v: Vertex) -> bool
     ensures { λ r. ⌜ r ≡ isIn (v .0) (leftOut w) ⌝ }
 {
@@ -209,7 +217,10 @@ fn is_crowded(w: Crowd, v: Vertex) -> bool
     if v == w.b {
         return true;
     }
-    v == w.d
+    if v == w.d {
+        return true;
+    }
+    v == w.e
 }
 
 // The lesser of hi and the least of the tetrahedra around a vertex, unless that is left out.
@@ -237,8 +248,8 @@ fn visit(
     least_in(labels, &entries[from..end], lo, hi, c, quads)
 }
 
-// The next of the cell's tetrahedra, from lo on; the number of all where there is none. Each has four corners of the cell, so it is looked
-// for around these, but for the three left out.
+// The next of the cell's tetrahedra, from lo on; the number of all where there is none. Each has a corner of the cell that is not left out,
+// so it is looked for around these.
 fn next(
     labels: &[u16],
     n: usize,
@@ -249,7 +260,7 @@ fn next(
     c: &[u16],
     quads: &[u8],
 ) -> usize
-    requires { ⌜ Indexed (now labels) n (now offsets) (now entries) ⌝ }
+    requires { ⌜ Indexed (now labels) n (now offsets) (now entries) × Aside (λ j. belongs (meshOf [] (now labels) []) (quadsOf (now quads)) (now c) (tetAt (now labels) [] j)) (now labels) (leftOut w) ⌝ }
     ensures { λ r. ⌜ NextOf (λ j. belongs (meshOf [] (now (labels .entry)) []) (quadsOf (now (quads .entry))) (now (c .entry)) (tetAt (now (labels .entry)) [] j)) lo (length (now (labels .entry)) / 4) r ⌝ }
 {
     let mut least = labels.len() / 4;
@@ -286,7 +297,7 @@ pub fn find(
     ensures { λ r. ⌜ Found (numbersOf (meshOf [] (now (labels .entry)) []) (quadsOf (now (quads .entry))) (now (c .entry))) r ⌝ }
 {
     let t = labels.len() / 4;
-    let w = crowd_of(labels, n, offsets, entries, c);
+    let w = crowd_of(labels, n, offsets, entries, c, quads);
     let mut found = Tets {
         count: 0,
         list: [65535; 25],

@@ -24,7 +24,7 @@ crowd-of-requires : tie.Need-crowd-of-requires Inv-loop μ-loop
 crowd-of-requires c κs = c .before .before .before .before .before .pre
 
 next-requires : tie.Need-next-requires Inv-loop μ-loop
-next-requires c κs = c .before .before .before .before .before .before .pre
+next-requires c κs = (c .before .before .before .before .before .before .pre, c .crowd-of .ensures)
 
 loop-holds : tie.Need-loop-holds Inv-loop μ-loop
 unfolding keep
@@ -42,7 +42,7 @@ add-next : tie.Need-add-next Inv-loop μ-loop
 add-next c = omega arith
 
 next-requires-2 : tie.Need-next-requires-2 Inv-loop μ-loop
-next-requires-2 c κs = c .before .before .before .before .before .before .before .before .before .before .pre
+next-requires-2 c κs = (c .before .before .before .before .before .before .before .before .before .before .pre, c .before .before .before .before .crowd-of .ensures)
 
 loop-less : tie.Need-loop-less Inv-loop μ-loop
 loop-less c = omega (arith, c .next2 .ensures .from (omega arith))

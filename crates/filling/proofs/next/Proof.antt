@@ -27,7 +27,7 @@ shared-slice-read-v : tie.Need-shared-slice-read-v Inv-loop μ-loop
 shared-slice-read-v c = omega arith
 
 visit-requires : tie.Need-visit-requires Inv-loop μ-loop
-visit-requires c κs = c .before .before .before .before .before .before .before .before .pre
+visit-requires c κs = c .before .before .before .before .before .before .before .before .pre .0
 
 add-k : tie.Need-add-k Inv-loop μ-loop
 add-k c = omega arith
@@ -41,7 +41,7 @@ loop-again c = (omega arith, next-visit (omega arith) (c .before .before .before
 returns : tie.Need-returns Inv-loop μ-loop
 returns c =
     let s = c .before .before .before .before .before .before .before in
-    next-done (s .args .labels .now) (s .args .quads .now) (s .args .c .now) (s .args .n) (s .pre .labelled) (omega arith) (c .before .loop .inv .1) (omega arith)
+    next-done (s .args .labels .now) (s .args .quads .now) (s .args .c .now) (s .pre .1) (c .before .loop .inv .1) (omega arith)
 
 pub next-spec : {M : Type 1} → statement M
 next-spec =
