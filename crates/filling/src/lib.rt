@@ -12,7 +12,7 @@ ghost use Rattle.templates.specs.Tables.{at};
 ghost use Rattle.cells.specs.Cells.{noneOrTwo, isDiagonal, belongs, numbersOf};
 ghost use Rattle.cells.specs.Rows.{row3, threes, fours, quadsOf};
 ghost use Rattle.filling.specs.Found.{Found, pushed};
-ghost use Rattle.filling.specs.Next.{Hit, Rising, Least, leftOut, Aside, Visited, NextOf};
+ghost use Rattle.filling.specs.Next.{Hit, hasStamp, Stamped, Rising, Least, leftOut, Aside, Visited, NextOf};
 ghost use Rattle.filling.specs.Filled.{sidesIn, once, paired, covers, fills, onePart};
 use around::row_of;
 use cells::corners3;
@@ -98,21 +98,79 @@ fn push(f: Tets, e: Tet) -> Tets
     Tets { count: k + 1, list }
 }
 
-// The tetrahedron is one of the cell's and not below lo.
-fn is_hit(labels: &[u16], e: Tet, lo: usize, c: &[u16], quads: &[u8]) -> bool
+// 512 places for stamps; that they are 512 is all that is told.
+fn no_stamps() -> [u8; 512]
+    ensures { λ r. ⌜ 512 ≡ length r ⌝ }
+{
+    [0; 512]
+}
+
+// A stamp for each corner, at the remainder of its number by 512.
+fn stamp(c: &[u16]) -> [u8; 512]
+    ensures { λ r. ⌜ Stamped (now (c .entry)) (length (now (c .entry))) r ⌝ }
+{
+    let mut m = no_stamps();
+    let mut k = 0;
+    while k < c.len() {
+        let v = c[k] as usize;
+        m[v % 512] = 1;
+        k += 1;
+    }
+    m
+}
+
+// The vertex may be a corner: there is a stamp for it.
+fn has_stamp(m: &[u8; 512], v: Vertex) -> bool
+    ensures { λ r. ⌜ r ≡ hasStamp (now (m .entry)) (v .0) ⌝ }
+{
+    let v = v.0 as usize;
+    m[v % 512] != 0
+}
+
+// Each vertex of the tetrahedron may be a corner.
+fn may_be_in(labels: &[u16], e: Tet, m: &[u8; 512]) -> bool
     requires { ⌜ e .0 < length (now labels) / 4 ⌝ }
+    ensures { λ r. ⌜ r ≡ all (hasStamp (now (m .entry))) (row4 (now (labels .entry)) (e .0)) ⌝ }
+{
+    let at = 4 * (e.0 as usize);
+    if !has_stamp(m, Vertex(labels[at])) {
+        return false;
+    }
+    if !has_stamp(m, Vertex(labels[at + 1])) {
+        return false;
+    }
+    if !has_stamp(m, Vertex(labels[at + 2])) {
+        return false;
+    }
+    has_stamp(m, Vertex(labels[at + 3]))
+}
+
+// The tetrahedron is one of the cell's and not below lo. Most have a vertex without a stamp, which is seen soonest.
+fn is_hit(labels: &[u16], e: Tet, lo: usize, m: &[u8; 512], c: &[u16], quads: &[u8]) -> bool
+    requires { ⌜ (e .0 < length (now labels) / 4) × Stamped (now c) (length (now c)) (now m) ⌝ }
     ensures { λ r. ⌜ Hit (belongs (meshOf [] (now (labels .entry)) []) (quadsOf (now (quads .entry))) (now (c .entry)) (tetAt (now (labels .entry)) [] (e .0))) lo (e .0) r ⌝ }
 {
     let j = e.0 as usize;
     if j < lo {
         return false;
     }
+    if !may_be_in(labels, e, m) {
+        return false;
+    }
     belongs_to(labels, e, c, quads)
 }
 
 // The least of a row's tetrahedra that is one of the cell's and not below lo; hi where none below hi is. The row rises, so the first is it.
-fn least_in(labels: &[u16], row: &[u16], lo: usize, hi: usize, c: &[u16], quads: &[u8]) -> usize
-    requires { ⌜ Within (length (now labels) / 4) (now row) × Rising (now row) ⌝ }
+fn least_in(
+    labels: &[u16],
+    row: &[u16],
+    lo: usize,
+    hi: usize,
+    m: &[u8; 512],
+    c: &[u16],
+    quads: &[u8],
+) -> usize
+    requires { ⌜ Within (length (now labels) / 4) (now row) × (Rising (now row) × Stamped (now c) (length (now c)) (now m)) ⌝ }
     ensures { λ r. ⌜ Least (λ j. belongs (meshOf [] (now (labels .entry)) []) (quadsOf (now (quads .entry))) (now (c .entry)) (tetAt (now (labels .entry)) [] j)) lo hi (now (row .entry)) (length (now (row .entry))) r ⌝ }
 {
     let mut k = 0;
@@ -122,7 +180,7 @@ fn least_in(labels: &[u16], row: &[u16], lo: usize, hi: usize, c: &[u16], quads:
         if hi <= j {
             return hi;
         }
-        if is_hit(labels, Tet(i), lo, c, quads) {
+        if is_hit(labels, Tet(i), lo, m, c, quads) {
             return j;
         }
         k += 1;
@@ -233,10 +291,11 @@ fn visit(
     lo: usize,
     hi: usize,
     w: Crowd,
+    m: &[u8; 512],
     c: &[u16],
     quads: &[u8],
 ) -> usize
-    requires { ⌜ Indexed (now labels) n (now offsets) (now entries) ⌝ }
+    requires { ⌜ Indexed (now labels) n (now offsets) (now entries) × Stamped (now c) (length (now c)) (now m) ⌝ }
     ensures { λ r. ⌜ Visited (λ j. belongs (meshOf [] (now (labels .entry)) []) (quadsOf (now (quads .entry))) (now (c .entry)) (tetAt (now (labels .entry)) [] j)) lo hi (leftOut w) (v .0) (around (now (labels .entry)) (v .0)) r ⌝ }
 {
     if is_crowded(w, v) {
@@ -245,7 +304,7 @@ fn visit(
     let row = row_of(labels, n, offsets, entries, v);
     let from = row.from;
     let end = from + row.size;
-    least_in(labels, &entries[from..end], lo, hi, c, quads)
+    least_in(labels, &entries[from..end], lo, hi, m, c, quads)
 }
 
 // The next of the cell's tetrahedra, from lo on; the number of all where there is none. Each has a corner of the cell that is not left out,
@@ -257,10 +316,11 @@ fn next(
     entries: &[u16],
     lo: usize,
     w: Crowd,
+    m: &[u8; 512],
     c: &[u16],
     quads: &[u8],
 ) -> usize
-    requires { ⌜ Indexed (now labels) n (now offsets) (now entries) × Aside (λ j. belongs (meshOf [] (now labels) []) (quadsOf (now quads)) (now c) (tetAt (now labels) [] j)) (now labels) (leftOut w) ⌝ }
+    requires { ⌜ Indexed (now labels) n (now offsets) (now entries) × (Aside (λ j. belongs (meshOf [] (now labels) []) (quadsOf (now quads)) (now c) (tetAt (now labels) [] j)) (now labels) (leftOut w) × Stamped (now c) (length (now c)) (now m)) ⌝ }
     ensures { λ r. ⌜ NextOf (λ j. belongs (meshOf [] (now (labels .entry)) []) (quadsOf (now (quads .entry))) (now (c .entry)) (tetAt (now (labels .entry)) [] j)) lo (length (now (labels .entry)) / 4) r ⌝ }
 {
     let mut least = labels.len() / 4;
@@ -276,6 +336,7 @@ fn next(
             lo,
             least,
             w,
+            m,
             c,
             quads,
         );
@@ -298,14 +359,15 @@ pub fn find(
 {
     let t = labels.len() / 4;
     let w = crowd_of(labels, n, offsets, entries, c, quads);
+    let m = stamp(c);
     let mut found = Tets {
         count: 0,
         list: [65535; 25],
     };
-    let mut i = next(labels, n, offsets, entries, 0, w, c, quads);
+    let mut i = next(labels, n, offsets, entries, 0, w, &m, c, quads);
     while i < t {
         found = push(found, Tet(i as u16));
-        i = next(labels, n, offsets, entries, i + 1, w, c, quads);
+        i = next(labels, n, offsets, entries, i + 1, w, &m, c, quads);
     }
     found
 }

@@ -13,10 +13,10 @@ use Rattle.filling.proofs.least_in.Statement.{statement}
 use Rattle.filling.proofs.least_in.Tie as tie
 
 abbrev Inv-loop : tie.InvT-loop
-Inv-loop labels row lo hi c quads k₀ k = (k ≤ length row) × Least (λ j. belongs (meshOf [] labels []) (quadsOf quads) c (tetAt labels [] j)) lo hi row k hi
+Inv-loop labels row lo hi m c quads k₀ k = (k ≤ length row) × Least (λ j. belongs (meshOf [] labels []) (quadsOf quads) c (tetAt labels [] j)) lo hi row k hi
 
 abbrev μ-loop : tie.MeasureT-loop
-μ-loop labels row lo hi c quads k₀ k = length row - k
+μ-loop labels row lo hi m c quads k₀ k = length row - k
 
 loop-holds : tie.Need-loop-holds Inv-loop μ-loop
 loop-holds c = (omega arith, least-start)
@@ -31,15 +31,15 @@ cast-j : tie.Need-cast-j Inv-loop μ-loop
 cast-j c = let s = c .before .before .before .before .before .before .before in omega (arith, s .pre .0 .below (c .before .before .loop .k) (omega arith))
 
 returns : tie.Need-returns Inv-loop μ-loop
-returns c = let s = c .before .before .before .before .before .before .before .before in least-past (c .before .before .before .loop .inv .1) (s .pre .1) (omega arith) (c .if1 .taken)
+returns c = let s = c .before .before .before .before .before .before .before .before in least-past (c .before .before .before .loop .inv .1) (s .pre .1 .0) (omega arith) (c .if1 .taken)
 
 is-hit-requires : tie.Need-is-hit-requires Inv-loop μ-loop
 is-hit-requires c κs =
     let s = c .before .before .before .before .before .before .before .before in
-    omega (arith, s .pre .0 .below (c .before .before .before .loop .k) (omega arith))
+    (omega (arith, s .pre .0 .below (c .before .before .before .loop .k) (omega arith)), s .pre .1 .1)
 
 returns-2 : tie.Need-returns-2 Inv-loop μ-loop
-returns-2 c = let s = c .before .before .before .before .before .before .before .before .before .before in least-hit (c .before .before .before .before .before .loop .inv .1) (s .pre .1) (omega arith) (omega arith) (c .before .is-hit .ensures) (c .if2 .taken)
+returns-2 c = let s = c .before .before .before .before .before .before .before .before .before .before in least-hit (c .before .before .before .before .before .loop .inv .1) (s .pre .1 .0) (omega arith) (omega arith) (c .before .is-hit .ensures) (c .if2 .taken)
 
 add-k : tie.Need-add-k Inv-loop μ-loop
 add-k c = omega arith

@@ -32,7 +32,7 @@ part-least-in-end : tie.Need-part-least-in-end
 part-least-in-end c = search needs
 
 least-in-requires : tie.Need-least-in-requires
-least-in-requires c κs = (slice-within (c .before .before .row-of .ensures), rw (row-slice (c .before .before .row-of .ensures)) (around-rises _ _))
+least-in-requires c κs = (slice-within (c .before .before .row-of .ensures), (rw (row-slice (c .before .before .row-of .ensures)) (around-rises _ _), c .before .before .before .before .before .before .before .before .before .before .pre .1))
 
 returns-2 : tie.Need-returns-2
 returns-2 c = record { is = inr (rw (row-slice (c .before .before .before .row-of .ensures)) at (c .least-in .ensures)) }
