@@ -9,8 +9,8 @@ use native.Mathlib.Decide.{decLt}
 use native.Mathlib.Omega.{arith}
 use borrow.Author.Tests.{eqb-true, eqb-false, eq-eqb, not-true}
 use lib.Dec.{eqb}
-use lib.ListN.{length, getD, set, length-set}
-use lib.Seq.{getD-set-same, getD-set-other}
+use lib.ListN.{length, getD, set, length-set, replicate}
+use lib.Seq.{getD-set-same, getD-set-other, set-out}
 use Rattle.base.specs.Lists.{all, any, keep, from, upTo, isIn}
 use Rattle.base.proofs.Bools.{and-left, and-right}
 use Rattle.base.proofs.Lists.{fails, all-at, all-from, any-at}
@@ -22,7 +22,7 @@ use Rattle.cells.specs.Rows.{fours, quadsOf}
 use Rattle.templates.specs.Tables.{at}
 use Rattle.templates.proofs.Tests.{any-from}
 use Rattle.filling.specs.declared.Tets.{Tets}
-use Rattle.filling.specs.Next.{Hit, hasStamp, Stamped, Rising, Least, Next, Aside, Visited, NextOf}
+use Rattle.filling.specs.Next.{Hit, hasStamp, Stamped, Rising, Least, Passed, Next, Aside, Visited, NextOf, Reached}
 use Rattle.filling.proofs.Found.{FoundUp, keep-skip}
 
 -- where an element stands
@@ -95,29 +95,51 @@ pub around-rises : (ls : List ℕ) (v : ℕ) → Rising (around ls v)
 unfolding around
 around-rises ls v = record { up = keep-rises (λ i. isIn v (row4 ls i)) (length ls / 4) 0 }
 
-pub least-start : {b : ℕ → Bool} {lo hi : ℕ} {row : List ℕ} → Least b lo hi row 0 hi
-least-start = record { le = omega arith; is = λ h. absurd (omega arith); none = λ i h. absurd (omega arith) }
-
 -- none so far
-module _ {b : ℕ → Bool} {lo hi k : ℕ} {row : List ℕ} (a : Least b lo hi row k hi) where
-  none-next : {r : Bool} → Hit (b (getD row k 0)) lo (getD row k 0) r → r ≡ false → (i : ℕ) → Dec (i < k) → i < k + 1 → lo ≤ getD row i 0 → getD row i 0 < hi → b (getD row i 0) ≡ false
-  none-next l f i (yes h) g p q = a .none i h p q
-  none-next l f i (no h) g p q = let e : i ≡ k = omega arith in rw e (l .none f (rw e at p))
+module _ {b : ℕ → Bool} {lo k : ℕ} {row : List ℕ} (a : Passed b lo row k) where
+  none-next : {r : Bool} → Hit (b (getD row k 0)) lo (getD row k 0) r → r ≡ false → (i : ℕ) → Dec (i < k) → i < k + 1 → lo ≤ getD row i 0 → b (getD row i 0) ≡ false
+  none-next l f i (yes h) g p = a .none i h p
+  none-next l f i (no h) g p = let e : i ≡ k = omega arith in rw e (l .none f (rw e at p))
 
-  pub least-next : {r : Bool} → Hit (b (getD row k 0)) lo (getD row k 0) r → r ≡ false → Least b lo hi row (k + 1) hi
-  least-next l f = record { le = omega arith; is = λ h. absurd (omega arith); none = λ i. none-next l f i (decLt i k) }
+  pub passed-next : {r : Bool} → k < length row → Hit (b (getD row k 0)) lo (getD row k 0) r → r ≡ false → Passed b lo row (k + 1)
+  passed-next m l f = record { low = omega arith; none = λ i. none-next l f i (decLt i k) }
+
+  pub least-none : (hi : ℕ) → length row ≤ k → Least b lo hi row (length row) hi
+  least-none hi h = record { le = omega arith; is = λ g. absurd (omega arith); none = λ i g p q. a .none i (omega arith) p }
 
   module _ (u : Rising row) (m : k < length row) where
     -- from place k on, no number is below that at k
-    none-after : (r : ℕ) → r ≤ hi → r ≤ getD row k 0 → (i : ℕ) → Dec (i < k) → i < length row → lo ≤ getD row i 0 → getD row i 0 < r → b (getD row i 0) ≡ false
-    none-after r t e i (yes h) g p q = a .none i h p (omega arith)
-    none-after r t e i (no h) g p q = absurd (omega (arith, u .up k i (omega arith) g))
+    none-after : (r : ℕ) → r ≤ getD row k 0 → (i : ℕ) → Dec (i < k) → i < length row → lo ≤ getD row i 0 → getD row i 0 < r → b (getD row i 0) ≡ false
+    none-after r e i (yes h) g p q = a .none i h p
+    none-after r e i (no h) g p q = absurd (omega (arith, u .up k i (omega arith) g))
 
-    pub least-past : hi ≤ getD row k 0 → Least b lo hi row (length row) hi
-    least-past e = record { le = omega arith; is = λ h. absurd (omega arith); none = λ i. none-after hi (omega arith) e i (decLt i k) }
+    pub least-past : {hi : ℕ} → hi ≤ getD row k 0 → Least b lo hi row (length row) hi
+    least-past {hi} e = record { le = omega arith; is = λ h. absurd (omega arith); none = λ i. none-after hi e i (decLt i k) }
 
-    pub least-hit : {r : Bool} → getD row k 0 < hi → Hit (b (getD row k 0)) lo (getD row k 0) r → r ≡ true → Least b lo hi row (length row) (getD row k 0)
-    least-hit h l t = record { le = omega arith; is = λ g. l .is t; none = λ i. none-after (getD row k 0) (omega arith) (omega arith) i (decLt i k) }
+    pub least-hit : {hi : ℕ} {r : Bool} → getD row k 0 < hi → Hit (b (getD row k 0)) lo (getD row k 0) r → r ≡ true → Least b lo hi row (length row) (getD row k 0)
+    least-hit h l t = record { le = omega arith; is = λ g. l .is t; none = λ i. none-after (getD row k 0) (omega arith) i (decLt i k) }
+
+-- ---- the places that rows are read up to
+
+zeros : (n i : ℕ) → _≡_ {A = ℕ} (getD (replicate n 0) i 0) 0
+zeros zero i = refl
+zeros (suc n) zero = refl
+zeros (suc n) (suc i) = zeros n i
+
+pub reached-start : (b : ℕ → Bool) (ls c : List ℕ) (lo n : ℕ) → Reached b ls c lo (replicate n 0)
+reached-start b ls c lo n = record { at = λ k. rw (zeros n k) (record { low = omega arith; none = λ i h. absurd (omega arith) }) }
+
+module _ {b : ℕ → Bool} {ls c : List ℕ} {lo : ℕ} {places : List ℕ} (a : Reached b ls c lo places) where
+  pub reached-from : {next : ℕ} → lo ≤ next → Reached b ls c next places
+  reached-from h = record { at = λ k. record { low = a .at k .low; none = λ i g p. a .at k .none i g (omega arith) } }
+
+  at-put : (k : ℕ) {p : ℕ} → Passed b lo (around ls (getD c k 0)) p → Dec (k < length places) → (j : ℕ) (u : Bool) → eqb j k ≡ u → Passed b lo (around ls (getD c j 0)) (getD (set places k p) j 0)
+  at-put k {p} q (yes h) j true e = rw (eqb-true j k e, getD-set-same places k p 0 h) q
+  at-put k {p} q (no h) j true e = rw (set-out places k p (omega arith)) (a .at j)
+  at-put k {p} q d j false e = rw (getD-set-other places k j p 0 (eqb-false j k e)) (a .at j)
+
+  pub reached-put : (k : ℕ) {p : ℕ} → Passed b lo (around ls (getD c k 0)) p → Reached b ls c lo (set places k p)
+  reached-put k q = record { at = λ j. at-put k q (decLt k (length places)) j (eqb j k) refl }
 
 -- ---- over the corners
 

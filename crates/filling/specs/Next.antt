@@ -8,7 +8,7 @@ use mathlib.Core.Logic.{_⊎_}
 use lib.Dec.{eqb}
 use lib.ListN.{length, getD}
 use Rattle.base.specs.Lists.{all, isIn}
-use Rattle.space.specs.Arrays.{row4}
+use Rattle.space.specs.Arrays.{row4, around}
 use Rattle.filling.specs.declared.Crowd.{Crowd}
 
 -- j passes the test b and is not below lo
@@ -35,7 +35,12 @@ pub record Least (b : ℕ → Bool) (lo hi : ℕ) (row : List ℕ) (k r : ℕ) :
   pub is : r < hi → (lo ≤ r) × (b r ≡ true)
   pub none : (i : ℕ) → i < k → lo ≤ getD row i 0 → getD row i 0 < r → b (getD row i 0) ≡ false
 
--- the same among the tetrahedra around the first k vertices of c, but for those left out
+-- the row is read up to place p: no number before that, from lo on, passes b
+pub record Passed (b : ℕ → Bool) (lo : ℕ) (row : List ℕ) (p : ℕ) : Type 0 where
+  pub low : p ≤ length row
+  pub none : (i : ℕ) → i < p → lo ≤ getD row i 0 → b (getD row i 0) ≡ false
+
+-- the least among the tetrahedra around the first k vertices of c, but for those left out
 pub record Next (b : ℕ → Bool) (ls c : List ℕ) (lo hi k : ℕ) (out : List ℕ) (r : ℕ) : Type 0 where
   pub le : r ≤ hi
   pub is : r < hi → (lo ≤ r) × (b r ≡ true)
@@ -59,3 +64,7 @@ pub record NextOf (b : ℕ → Bool) (lo hi r : ℕ) : Type 0 where
   pub from : lo ≤ hi → lo ≤ r
   pub is : r < hi → b r ≡ true
   pub none : (j : ℕ) → lo ≤ j → j < r → b j ≡ false
+
+-- the row of each vertex of c is read up to its place
+pub record Reached (b : ℕ → Bool) (ls c : List ℕ) (lo : ℕ) (places : List ℕ) : Type 0 where
+  pub at : (k : ℕ) → Passed b lo (around ls (getD c k 0)) (getD places k 0)

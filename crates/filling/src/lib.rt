@@ -3,7 +3,7 @@ ghost use mathlib.Core.Path.{_≡_};
 ghost use mathlib.Core.List.{[], _∷_};
 ghost use Prim.Native.Nat.{_/_, _≤_, _<_};
 ghost use lib.Dec.{eqb};
-ghost use lib.ListN.{length, getD};
+ghost use lib.ListN.{length, getD, set, replicate};
 ghost use Rattle.base.specs.Lists.{all, any, count, isIn};
 ghost use Rattle.space.specs.Arrays.{row4, tetAt, meshOf, around};
 ghost use Rattle.around.specs.Index.{Indexed, hasAll};
@@ -12,7 +12,7 @@ ghost use Rattle.templates.specs.Tables.{at};
 ghost use Rattle.cells.specs.Cells.{noneOrTwo, isDiagonal, belongs, numbersOf};
 ghost use Rattle.cells.specs.Rows.{row3, threes, fours, quadsOf};
 ghost use Rattle.filling.specs.Found.{Found, pushed};
-ghost use Rattle.filling.specs.Next.{Hit, hasStamp, Stamped, Rising, Least, leftOut, Aside, Visited, NextOf};
+ghost use Rattle.filling.specs.Next.{Hit, hasStamp, Stamped, Rising, Least, Passed, leftOut, Aside, Visited, NextOf, Reached};
 ghost use Rattle.filling.specs.Filled.{sidesIn, once, paired, covers, fills, onePart};
 use around::row_of;
 use cells::corners3;
@@ -160,32 +160,40 @@ fn is_hit(labels: &[u16], e: Tet, lo: usize, m: &[u8; 512], c: &[u16], quads: &[
     belongs_to(labels, e, c, quads)
 }
 
+// What was seen in a row: the least, and the place that the row is read up to. No tetrahedron before that place is asked for again.
+struct Seen {
+    least: usize,
+    at: usize,
+}
+
 // The least of a row's tetrahedra that is one of the cell's and not below lo; hi where none below hi is. The row rises, so the first is it.
 fn least_in(
     labels: &[u16],
     row: &[u16],
+    from: usize,
     lo: usize,
     hi: usize,
     m: &[u8; 512],
     c: &[u16],
     quads: &[u8],
-) -> usize
-    requires { ⌜ Within (length (now labels) / 4) (now row) × (Rising (now row) × Stamped (now c) (length (now c)) (now m)) ⌝ }
-    ensures { λ r. ⌜ Least (λ j. belongs (meshOf [] (now (labels .entry)) []) (quadsOf (now (quads .entry))) (now (c .entry)) (tetAt (now (labels .entry)) [] j)) lo hi (now (row .entry)) (length (now (row .entry))) r ⌝ }
+) -> Seen
+    requires { ⌜ Within (length (now labels) / 4) (now row) × Rising (now row) ⌝ }
+    requires { ⌜ Stamped (now c) (length (now c)) (now m) × Passed (λ j. belongs (meshOf [] (now labels) []) (quadsOf (now quads)) (now c) (tetAt (now labels) [] j)) lo (now row) from ⌝ }
+    ensures { λ r. ⌜ Least (λ j. belongs (meshOf [] (now (labels .entry)) []) (quadsOf (now (quads .entry))) (now (c .entry)) (tetAt (now (labels .entry)) [] j)) lo hi (now (row .entry)) (length (now (row .entry))) (r .least) × Passed (λ j. belongs (meshOf [] (now (labels .entry)) []) (quadsOf (now (quads .entry))) (now (c .entry)) (tetAt (now (labels .entry)) [] j)) lo (now (row .entry)) (r .at) ⌝ }
 {
-    let mut k = 0;
-    while k < row.len() {
-        let i = row[k];
+    let mut at = from;
+    while at < row.len() {
+        let i = row[at];
         let j = i as usize;
         if hi <= j {
-            return hi;
+            return Seen { least: hi, at };
         }
         if is_hit(labels, Tet(i), lo, m, c, quads) {
-            return j;
+            return Seen { least: j, at };
         }
-        k += 1;
+        at += 1;
     }
-    hi
+    Seen { least: hi, at }
 }
 
 // The corners of one quadrilateral of a cell, and how many tetrahedra they have.
@@ -288,27 +296,56 @@ fn visit(
     offsets: &[u16],
     entries: &[u16],
     v: Vertex,
+    from: usize,
     lo: usize,
     hi: usize,
     w: Crowd,
     m: &[u8; 512],
     c: &[u16],
     quads: &[u8],
-) -> usize
+) -> Seen
     requires { ⌜ Indexed (now labels) n (now offsets) (now entries) × Stamped (now c) (length (now c)) (now m) ⌝ }
-    ensures { λ r. ⌜ Visited (λ j. belongs (meshOf [] (now (labels .entry)) []) (quadsOf (now (quads .entry))) (now (c .entry)) (tetAt (now (labels .entry)) [] j)) lo hi (leftOut w) (v .0) (around (now (labels .entry)) (v .0)) r ⌝ }
+    requires { ⌜ Passed (λ j. belongs (meshOf [] (now labels) []) (quadsOf (now quads)) (now c) (tetAt (now labels) [] j)) lo (around (now labels) (v .0)) from ⌝ }
+    ensures { λ r. ⌜ Visited (λ j. belongs (meshOf [] (now (labels .entry)) []) (quadsOf (now (quads .entry))) (now (c .entry)) (tetAt (now (labels .entry)) [] j)) lo hi (leftOut w) (v .0) (around (now (labels .entry)) (v .0)) (r .least) × Passed (λ j. belongs (meshOf [] (now (labels .entry)) []) (quadsOf (now (quads .entry))) (now (c .entry)) (tetAt (now (labels .entry)) [] j)) lo (around (now (labels .entry)) (v .0)) (r .at) ⌝ }
 {
     if is_crowded(w, v) {
-        return hi;
+        return Seen {
+            least: hi,
+            at: from,
+        };
     }
     let row = row_of(labels, n, offsets, entries, v);
-    let from = row.from;
-    let end = from + row.size;
-    least_in(labels, &entries[from..end], lo, hi, m, c, quads)
+    let start = row.from;
+    let end = start + row.size;
+    least_in(labels, &entries[start..end], from, lo, hi, m, c, quads)
+}
+
+// For each of the first 8 corners, the place that its row is read up to: at first none.
+fn no_places() -> [usize; 8]
+    ensures { λ r. ⌜ r ≡ replicate 8 0 ⌝ }
+{
+    [0; 8]
+}
+
+fn place_of(places: &[usize], k: usize) -> usize
+    ensures { λ r. ⌜ r ≡ getD (now (places .entry)) k 0 ⌝ }
+{
+    if k < places.len() {
+        return places[k];
+    }
+    0
+}
+
+fn put_place(places: &mut [usize], k: usize, at: usize)
+    ensures { λ _. ⌜ now (places .exit) ≡ set (now (places .entry)) k at ⌝ }
+{
+    if k < places.len() {
+        places[k] = at;
+    }
 }
 
 // The next of the cell's tetrahedra, from lo on; the number of all where there is none. Each has a corner of the cell that is not left out,
-// so it is looked for around these.
+// so it is looked for around these, in each row from its place on.
 fn next(
     labels: &[u16],
     n: usize,
@@ -317,22 +354,26 @@ fn next(
     lo: usize,
     w: Crowd,
     m: &[u8; 512],
+    places: &mut [usize],
     c: &[u16],
     quads: &[u8],
 ) -> usize
-    requires { ⌜ Indexed (now labels) n (now offsets) (now entries) × (Aside (λ j. belongs (meshOf [] (now labels) []) (quadsOf (now quads)) (now c) (tetAt (now labels) [] j)) (now labels) (leftOut w) × Stamped (now c) (length (now c)) (now m)) ⌝ }
-    ensures { λ r. ⌜ NextOf (λ j. belongs (meshOf [] (now (labels .entry)) []) (quadsOf (now (quads .entry))) (now (c .entry)) (tetAt (now (labels .entry)) [] j)) lo (length (now (labels .entry)) / 4) r ⌝ }
+    requires { ⌜ Indexed (now labels) n (now offsets) (now entries) × Stamped (now c) (length (now c)) (now m) ⌝ }
+    requires { ⌜ Aside (λ j. belongs (meshOf [] (now labels) []) (quadsOf (now quads)) (now c) (tetAt (now labels) [] j)) (now labels) (leftOut w) × Reached (λ j. belongs (meshOf [] (now labels) []) (quadsOf (now quads)) (now c) (tetAt (now labels) [] j)) (now labels) (now c) lo (now places) ⌝ }
+    ensures { λ r. ⌜ NextOf (λ j. belongs (meshOf [] (now (labels .entry)) []) (quadsOf (now (quads .entry))) (now (c .entry)) (tetAt (now (labels .entry)) [] j)) lo (length (now (labels .entry)) / 4) r × Reached (λ j. belongs (meshOf [] (now (labels .entry)) []) (quadsOf (now (quads .entry))) (now (c .entry)) (tetAt (now (labels .entry)) [] j)) (now (labels .entry)) (now (c .entry)) lo (now (places .exit)) ⌝ }
 {
     let mut least = labels.len() / 4;
     let mut k = 0;
     while k < c.len() {
         let v = c[k];
-        least = visit(
+        let from = place_of(places, k);
+        let seen = visit(
             labels,
             n,
             offsets,
             entries,
             Vertex(v),
+            from,
             lo,
             least,
             w,
@@ -340,6 +381,8 @@ fn next(
             c,
             quads,
         );
+        least = seen.least;
+        put_place(places, k, seen.at);
         k += 1;
     }
     least
@@ -360,14 +403,26 @@ pub fn find(
     let t = labels.len() / 4;
     let w = crowd_of(labels, n, offsets, entries, c, quads);
     let m = stamp(c);
+    let mut places = no_places();
     let mut found = Tets {
         count: 0,
         list: [65535; 25],
     };
-    let mut i = next(labels, n, offsets, entries, 0, w, &m, c, quads);
+    let mut i = next(labels, n, offsets, entries, 0, w, &m, &mut places, c, quads);
     while i < t {
         found = push(found, Tet(i as u16));
-        i = next(labels, n, offsets, entries, i + 1, w, &m, c, quads);
+        i = next(
+            labels,
+            n,
+            offsets,
+            entries,
+            i + 1,
+            w,
+            &m,
+            &mut places,
+            c,
+            quads,
+        );
     }
     found
 }
