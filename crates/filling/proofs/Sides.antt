@@ -1,15 +1,16 @@
 -- Which corners the tetrahedra have, noted once as marks: what is counted by the marks is what is counted by the labels. Assumes nothing.
 use mathlib.Core.Path.{_≡_, refl, sym, _∙_, ap, ap₂}
-use mathlib.Core.Bool.{Bool, true, false, cond, _&&_}
+use mathlib.Core.Bool.{Bool, true, false, cond, _&&_, _||_}
 use mathlib.Core.List.{List, [], _∷_, map}
 use Prim.Native.Nat.{ℕ, zero, suc, _+_, _*_, _/_, _≤_, _<_}
 use native.Mathlib.Nat.{add-zero, mul-zero, zero-mul, one-mul}
 use native.Mathlib.Omega.{arith}
 use borrow.Author.Tests.{ltb-true}
+use mir.Val.{boolByte}
 use lib.Dec.{eqb, ltb}
 use lib.ListN.{length, getD}
 use Rattle.base.specs.Lists.{all, count, from, upTo, isIn}
-use Rattle.base.proofs.Bools.{and-left, and-right}
+use Rattle.base.proofs.Bools.{or-false, and-left, and-right}
 use Rattle.base.proofs.Loop.{CountUp, count-skip, count-more, count-done, listed}
 use Rattle.space.specs.Arrays.{row4}
 use Rattle.around.specs.Index.{hasAll}
@@ -17,7 +18,7 @@ use Rattle.around.proofs.Around.{count-map}
 use Rattle.templates.specs.Tables.{at}
 use Rattle.cells.specs.Cells.{first, second, one, noneOrTwo}
 use Rattle.cells.specs.Rows.{row3, threes, fours}
-use Rattle.filling.specs.Filled.{sidesIn, Noted, Marks, sidesBy, low, Lettered, once, paired, covers, fills}
+use Rattle.filling.specs.Filled.{sidesIn, markOf, Noted, Marks, sidesBy, low, Lettered, once, paired, covers, fills}
 
 -- ---- one row of marks
 
@@ -28,6 +29,16 @@ mark-small false m e = omega arith
 mark-is : (b : Bool) (m : ℕ) → m ≡ cond b 1 0 → eqb m 1 ≡ b
 mark-is true m e = rw e
 mark-is false m e = rw e
+
+-- the mark as it is made
+byte-is : (b : Bool) → boolByte b ≡ cond b 1 0
+byte-is true = refl
+byte-is false = refl
+
+pub mark-of : (ls c : List ℕ) (i j v : ℕ) → v ≡ getD c j 0 → boolByte (eqb v (getD ls (4 * i) 0) || (eqb v (getD ls (4 * i + 1) 0) || (eqb v (getD ls (4 * i + 2) 0) || eqb v (getD ls (4 * i + 3) 0)))) ≡ markOf ls c i j
+mark-of ls c i j v e =
+    let is = eqb v in
+    rw (sym e, or-false (is (getD ls (4 * i + 3) 0))) (byte-is (is (getD ls (4 * i) 0) || (is (getD ls (4 * i + 1) 0) || (is (getD ls (4 * i + 2) 0) || is (getD ls (4 * i + 3) 0)))))
 
 -- two marks, and three
 pub both-small : (a b : ℕ) → a ≤ 1 → b ≤ 1 → a * b ≤ 1

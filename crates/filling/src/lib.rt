@@ -19,7 +19,6 @@ use around::row_of;
 use cells::corners4;
 use space::Tet;
 use space::Vertex;
-use space::tet_has;
 use templates::corner;
 use templates::is_in;
 
@@ -302,16 +301,18 @@ pub fn find(
 
 // ---- condition 5
 
-// Whether a tetrahedron has corner j of the cell, as 1 or 0.
+// Whether a tetrahedron has corner j of the cell, as 1 or 0; without a branch, which would cost more.
 fn mark(labels: &[u16], e: Tet, c: &[u16], j: u8) -> u8
     requires { ⌜ e .0 < length (now labels) / 4 ⌝ }
     ensures { λ r. ⌜ r ≡ markOf (now (labels .entry)) (now (c .entry)) (e .0) j ⌝ }
 {
     let v = corner(c, j);
-    if tet_has(labels, e, Vertex(v)) {
-        return 1;
-    }
-    0
+    let at = 4 * (e.0 as usize);
+    let w = v == labels[at];
+    let x = v == labels[at + 1];
+    let y = v == labels[at + 2];
+    let z = v == labels[at + 3];
+    (w | (x | (y | z))) as u8
 }
 
 // Writes which corners of the cell each of the tetrahedra listed has, 8 entries to each: they are compared once, and then counted by these.
