@@ -25,7 +25,7 @@ sides-row-requires c κs = (omega arith, c .before .before .before .before .pre)
 
 returns : tie.Need-returns Inv-loop μ-loop
 unfolding one
-returns c = all-fails (c .before .before .before .loop .inv .1) (omega arith) (rw (sym (c .before .sides-row .ensures)) (ne-eqb _ _ (c .if1 .taken)))
+returns c = all-fails (c .before .before .before .loop .inv .1) (omega arith) (rw (sym (c .before .sides-row .ensures)) (ne-eqb (c .before .sides-row .result) 1 (λ e. omega arith)))
 
 add-i : tie.Need-add-i Inv-loop μ-loop
 add-i c = omega arith
@@ -35,7 +35,7 @@ loop-less c = omega arith
 
 loop-again : tie.Need-loop-again Inv-loop μ-loop
 unfolding one
-loop-again c = (refl, all-next (c .before .before .before .loop .inv .1) (omega arith) (rw (sym (c .before .sides-row .ensures)) (eq-eqb _ _ (c .if1 .left))))
+loop-again c = (refl, all-next (c .before .before .before .loop .inv .1) (omega arith) (rw (sym (c .before .sides-row .ensures)) (eq-eqb (c .before .sides-row .result) 1 (omega arith))))
 
 returns-2 : tie.Need-returns-2 Inv-loop μ-loop
 unfolding one
