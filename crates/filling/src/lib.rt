@@ -1,25 +1,25 @@
 // Which tetrahedra a cell has, and whether they fill it and are of one part: conditions 5 and 6.
 ghost use mathlib.Core.Path.{_≡_};
+ghost use mathlib.Core.Bool.{true};
 ghost use mathlib.Core.List.{[], _∷_};
-ghost use Prim.Native.Nat.{_/_, _≤_, _<_};
+ghost use Prim.Native.Nat.{_*_, _/_, _≤_, _<_};
 ghost use lib.Dec.{eqb};
 ghost use lib.ListN.{length, getD, set, replicate};
-ghost use Rattle.base.specs.Lists.{all, any, count, isIn};
+ghost use Rattle.base.specs.Lists.{all, any, isIn};
 ghost use Rattle.space.specs.Arrays.{row4, tetAt, meshOf, around};
-ghost use Rattle.around.specs.Index.{Indexed, hasAll};
+ghost use Rattle.around.specs.Index.{Indexed};
 ghost use Rattle.around.specs.Build.{Within};
 ghost use Rattle.templates.specs.Tables.{at};
 ghost use Rattle.cells.specs.Cells.{noneOrTwo, isDiagonal, belongs, numbersOf};
 ghost use Rattle.cells.specs.Rows.{row3, threes, fours, quadsOf};
 ghost use Rattle.filling.specs.Found.{Found, pushed};
 ghost use Rattle.filling.specs.Next.{Hit, hasStamp, Stamped, Rising, Least, Passed, leftOut, Aside, Visited, NextOf, Reached};
-ghost use Rattle.filling.specs.Filled.{sidesIn, once, paired, covers, fills, onePart};
+ghost use Rattle.filling.specs.Filled.{sidesIn, markOf, Noted, Marks, low, Lettered, sidesBy, once, paired, covers, fills, onePart};
 use around::row_of;
-use cells::corners3;
 use cells::corners4;
 use space::Tet;
 use space::Vertex;
-use space::tet_has3;
+use templates::corner;
 use templates::is_in;
 
 // How many tetrahedra a cell has, and the numbers of the first 25, rising; 65,535 where unused.
@@ -429,41 +429,71 @@ pub fn find(
 
 // ---- condition 5
 
-// Of how many of the tetrahedra listed three vertices are a facet.
-fn sides_of(labels: &[u16], list: &[u16], u: Vertex, v: Vertex, w: Vertex) -> usize
-    requires { ⌜ Within (length (now labels) / 4) (now list) ⌝ }
-    ensures { λ r. ⌜ r ≡ count (hasAll (now (labels .entry)) (u .0 ∷ v .0 ∷ w .0 ∷ [])) (now (list .entry)) ⌝ }
+// Whether a tetrahedron has corner j of the cell, as 1 or 0; without a branch, which would cost more.
+fn mark(labels: &[u16], e: Tet, c: &[u16], j: u8) -> u8
+    requires { ⌜ e .0 < length (now labels) / 4 ⌝ }
+    ensures { λ r. ⌜ r ≡ markOf (now (labels .entry)) (now (c .entry)) (e .0) j ⌝ }
 {
+    let v = corner(c, j);
+    let at = 4 * (e.0 as usize);
+    let w = v == labels[at];
+    let x = v == labels[at + 1];
+    let y = v == labels[at + 2];
+    let z = v == labels[at + 3];
+    (w | (x | (y | z))) as u8
+}
+
+// Writes which corners of the cell each of the tetrahedra listed has, 8 entries to each: they are compared once, and then counted by these.
+fn note(labels: &[u16], list: &[u16], c: &[u16], has: &mut [u8])
+    requires { ⌜ Within (length (now labels) / 4) (now list) × (length (now has) ≡ 8 * length (now list)) ⌝ }
+    ensures { λ _. ⌜ Noted (now (labels .entry)) (now (list .entry)) (now (c .entry)) (now (has .exit)) ⌝ }
+{
+    let n = 8 * list.len();
+    let mut x = 0;
+    while x < n {
+        let i = list[x / 8];
+        has[x] = mark(labels, Tet(i), c, (x % 8) as u8);
+        x += 1;
+    }
+}
+
+// Of how many of the tetrahedra three corners are a facet. The product is 1 where all three are marked; a branch would cost more.
+fn sides_of(has: &[u8], x: u8, y: u8, z: u8) -> usize
+    requires { ⌜ Marks (now has) × ((x < 8) × ((y < 8) × (z < 8))) ⌝ }
+    ensures { λ r. ⌜ r ≡ sidesBy (now (has .entry)) (x ∷ y ∷ z ∷ []) ⌝ }
+{
+    let a = x as usize;
+    let b = y as usize;
+    let d = z as usize;
+    let n = has.len() / 8;
     let mut found: usize = 0;
     let mut k = 0;
-    while k < list.len() {
-        let i = list[k];
-        if tet_has3(labels, Tet(i), u, v, w) {
-            found += 1;
-        }
+    while k < n {
+        let at = 8 * k;
+        found += (has[at + a] * has[at + b] * has[at + d]) as usize;
         k += 1;
     }
     found
 }
 
 // The same of row i of a table of triples.
-fn sides_row(labels: &[u16], list: &[u16], c: &[u16], rows: &[u8], i: usize) -> usize
-    requires { ⌜ (i < length (now rows) / 3) × Within (length (now labels) / 4) (now list) ⌝ }
-    ensures { λ r. ⌜ r ≡ sidesIn (now (labels .entry)) (now (list .entry)) (now (c .entry)) (row3 (now (rows .entry)) i) ⌝ }
+fn sides_row(has: &[u8], rows: &[u8], i: usize) -> usize
+    requires { ⌜ (i < length (now rows) / 3) × (Marks (now has) × (low (now rows) ≡ true)) ⌝ }
+    ensures { λ r. ⌜ r ≡ sidesBy (now (has .entry)) (row3 (now (rows .entry)) i) ⌝ }
 {
-    let f = corners3(c, rows, i);
-    sides_of(labels, list, Vertex(f[0]), Vertex(f[1]), Vertex(f[2]))
+    let at = 3 * i;
+    sides_of(has, rows[at], rows[at + 1], rows[at + 2])
 }
 
 // The triples of the table are on the boundary: each is a facet of one.
-fn all_once(labels: &[u16], list: &[u16], c: &[u16], rows: &[u8]) -> bool
-    requires { ⌜ Within (length (now labels) / 4) (now list) ⌝ }
-    ensures { λ r. ⌜ r ≡ all (once (sidesIn (now (labels .entry)) (now (list .entry)) (now (c .entry)))) (threes (now (rows .entry))) ⌝ }
+fn all_once(has: &[u8], rows: &[u8]) -> bool
+    requires { ⌜ Marks (now has) × (low (now rows) ≡ true) ⌝ }
+    ensures { λ r. ⌜ r ≡ all (once (sidesBy (now (has .entry)))) (threes (now (rows .entry))) ⌝ }
 {
     let k = rows.len() / 3;
     let mut i = 0;
     while i < k {
-        if sides_row(labels, list, c, rows, i) != 1 {
+        if sides_row(has, rows, i) != 1 {
             return false;
         }
         i += 1;
@@ -481,14 +511,14 @@ fn is_pair(k: usize) -> bool
 }
 
 // The triples of the table are inside: each is a facet of none or of two.
-fn all_paired(labels: &[u16], list: &[u16], c: &[u16], rows: &[u8]) -> bool
-    requires { ⌜ Within (length (now labels) / 4) (now list) ⌝ }
-    ensures { λ r. ⌜ r ≡ all (paired (sidesIn (now (labels .entry)) (now (list .entry)) (now (c .entry)))) (threes (now (rows .entry))) ⌝ }
+fn all_paired(has: &[u8], rows: &[u8]) -> bool
+    requires { ⌜ Marks (now has) × (low (now rows) ≡ true) ⌝ }
+    ensures { λ r. ⌜ r ≡ all (paired (sidesBy (now (has .entry)))) (threes (now (rows .entry))) ⌝ }
 {
     let k = rows.len() / 3;
     let mut i = 0;
     while i < k {
-        if !is_pair(sides_row(labels, list, c, rows, i)) {
+        if !is_pair(sides_row(has, rows, i)) {
             return false;
         }
         i += 1;
@@ -513,29 +543,33 @@ fn is_diagonal(a: usize, b: usize, d: usize, e: usize) -> bool
 }
 
 // Quadrilateral i is covered by the triangles of exactly one of its diagonals.
-fn covered(labels: &[u16], list: &[u16], c: &[u16], quads: &[u8], i: usize) -> bool
-    requires { ⌜ (i < length (now quads) / 4) × Within (length (now labels) / 4) (now list) ⌝ }
-    ensures { λ r. ⌜ r ≡ covers (sidesIn (now (labels .entry)) (now (list .entry)) (now (c .entry))) (row4 (now (quads .entry)) i) ⌝ }
+fn covered(has: &[u8], quads: &[u8], i: usize) -> bool
+    requires { ⌜ (i < length (now quads) / 4) × (Marks (now has) × (low (now quads) ≡ true)) ⌝ }
+    ensures { λ r. ⌜ r ≡ covers (sidesBy (now (has .entry))) (row4 (now (quads .entry)) i) ⌝ }
 {
-    let q = corners4(c, quads, i);
-    let abd = sides_of(labels, list, Vertex(q[0]), Vertex(q[1]), Vertex(q[2]));
-    let ade = sides_of(labels, list, Vertex(q[0]), Vertex(q[2]), Vertex(q[3]));
-    let abe = sides_of(labels, list, Vertex(q[0]), Vertex(q[1]), Vertex(q[3]));
-    let bde = sides_of(labels, list, Vertex(q[1]), Vertex(q[2]), Vertex(q[3]));
+    let at = 4 * i;
+    let a = quads[at];
+    let b = quads[at + 1];
+    let d = quads[at + 2];
+    let e = quads[at + 3];
+    let abd = sides_of(has, a, b, d);
+    let ade = sides_of(has, a, d, e);
+    let abe = sides_of(has, a, b, e);
+    let bde = sides_of(has, b, d, e);
     if is_diagonal(abd, ade, abe, bde) {
         return true;
     }
     is_diagonal(abe, bde, abd, ade)
 }
 
-fn all_covered(labels: &[u16], list: &[u16], c: &[u16], quads: &[u8]) -> bool
-    requires { ⌜ Within (length (now labels) / 4) (now list) ⌝ }
-    ensures { λ r. ⌜ r ≡ all (covers (sidesIn (now (labels .entry)) (now (list .entry)) (now (c .entry)))) (fours (now (quads .entry))) ⌝ }
+fn all_covered(has: &[u8], quads: &[u8]) -> bool
+    requires { ⌜ Marks (now has) × (low (now quads) ≡ true) ⌝ }
+    ensures { λ r. ⌜ r ≡ all (covers (sidesBy (now (has .entry)))) (fours (now (quads .entry))) ⌝ }
 {
     let k = quads.len() / 4;
     let mut i = 0;
     while i < k {
-        if !covered(labels, list, c, quads, i) {
+        if !covered(has, quads, i) {
             return false;
         }
         i += 1;
@@ -543,7 +577,21 @@ fn all_covered(labels: &[u16], list: &[u16], c: &[u16], quads: &[u8]) -> bool
     true
 }
 
-// 5: the tetrahedra listed fill the cell; `within` are the triples on no face.
+// 5, where the corners that the tetrahedra have are noted.
+fn is_filled_by(has: &[u8], triangles: &[u8], quads: &[u8], within: &[u8]) -> bool
+    requires { ⌜ Marks (now has) × Lettered (now triangles) (now quads) (now within) ⌝ }
+    ensures { λ r. ⌜ r ≡ fills (sidesBy (now (has .entry))) (threes (now (triangles .entry))) (fours (now (quads .entry))) (threes (now (within .entry))) ⌝ }
+{
+    if !all_once(has, triangles) {
+        return false;
+    }
+    if !all_covered(has, quads) {
+        return false;
+    }
+    all_paired(has, within)
+}
+
+// 5: the tetrahedra listed fill the cell; `within` are the triples on no face, and `has` is room for 8 entries a tetrahedron.
 pub fn is_filled(
     labels: &[u16],
     list: &[u16],
@@ -551,17 +599,13 @@ pub fn is_filled(
     triangles: &[u8],
     quads: &[u8],
     within: &[u8],
+    has: &mut [u8],
 ) -> bool
-    requires { ⌜ Within (length (now labels) / 4) (now list) ⌝ }
+    requires { ⌜ Within (length (now labels) / 4) (now list) × ((length (now has) ≡ 8 * length (now list)) × Lettered (now triangles) (now quads) (now within)) ⌝ }
     ensures { λ r. ⌜ r ≡ fills (sidesIn (now (labels .entry)) (now (list .entry)) (now (c .entry))) (threes (now (triangles .entry))) (fours (now (quads .entry))) (threes (now (within .entry))) ⌝ }
 {
-    if !all_once(labels, list, c, triangles) {
-        return false;
-    }
-    if !all_covered(labels, list, c, quads) {
-        return false;
-    }
-    all_paired(labels, list, c, within)
+    note(labels, list, c, has);
+    is_filled_by(has, triangles, quads, within)
 }
 
 // ---- condition 6
