@@ -1,3 +1,4 @@
 pub mod Found
 pub mod Parts
+pub mod Sides
 pub mod Nearby

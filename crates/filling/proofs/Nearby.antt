@@ -1,25 +1,28 @@
 -- The next of a cell's tetrahedra, looked for around its corners. Assumes nothing.
 use mathlib.Core.Path.{_≡_, refl, sym, _∙_, ap}
 use mathlib.Core.Bool.{Bool, true, false, cond, _&&_, _||_, not, false≢true}
-use mathlib.Core.Logic.{_⊎_, inl, inr, ⊎-elim}
+use mathlib.Core.Logic.{⊎-elim}
 use mathlib.Core.List.{List, [], _∷_, List·Memᴰ, List·Memᴰ·head, List·Memᴰ·tail}
-use Prim.Native.Nat.{ℕ, zero, suc, _+_, _*_, _-_, _/_, _≤_, _<_}
-use native.Mathlib.Nat.{add-zero}
+use Prim.Native.Nat.{ℕ, zero, suc, _+_, _*_, _-_, _/_, _%_, _≤_, _<_}
+use native.Mathlib.Nat.{add-zero, mod-lt}
 use native.Mathlib.Decide.{decLt}
 use native.Mathlib.Omega.{arith}
-use borrow.Author.Tests.{eqb-true, eqb-false, eq-eqb}
+use borrow.Author.Tests.{eqb-true, eqb-false, eq-eqb, not-true}
 use lib.Dec.{eqb}
-use lib.ListN.{length, getD}
-use Rattle.base.specs.Lists.{all, any, keep, from, upTo, isIn, distinct}
+use lib.ListN.{length, getD, set, length-set, replicate}
+use lib.Seq.{getD-set-same, getD-set-other, set-out}
+use Rattle.base.specs.Lists.{all, any, keep, from, upTo, isIn}
 use Rattle.base.proofs.Bools.{and-left, and-right}
-use Rattle.base.proofs.Lists.{any-at}
-use Rattle.base.proofs.Members.{keep-has, from-has}
+use Rattle.base.proofs.Lists.{fails, all-at, all-from, any-at}
+use Rattle.base.proofs.Members.{keep-has, map-has, from-has}
 use Rattle.space.specs.Arrays.{row4, tetAt, meshOf, around}
 use Rattle.around.specs.Index.{Labelled}
 use Rattle.cells.specs.Cells.{belongs}
-use Rattle.cells.specs.Rows.{quadsOf}
+use Rattle.cells.specs.Rows.{fours, quadsOf}
+use Rattle.templates.specs.Tables.{at}
+use Rattle.templates.proofs.Tests.{any-from}
 use Rattle.filling.specs.declared.Tets.{Tets}
-use Rattle.filling.specs.Next.{Hit, Rising, Least, Next, Visited, NextOf}
+use Rattle.filling.specs.Next.{Hit, hasStamp, Stamped, Rising, Least, Passed, Next, Aside, Visited, NextOf, Reached}
 use Rattle.filling.proofs.Found.{FoundUp, keep-skip}
 
 -- where an element stands
@@ -35,6 +38,33 @@ place-in x xs e =
 pub place-around : (ls : List ℕ) (v j : ℕ) → j < length ls / 4 → isIn v (row4 ls j) ≡ true → (p : ℕ) × (p < length (around ls v)) × (getD (around ls v) p 0 ≡ j)
 unfolding around
 place-around ls v j h t = place-of _ (keep-has (λ i. isIn v (row4 ls i)) (upTo (length ls / 4)) (from-has 0 (length ls / 4) j (omega arith) (omega arith)) t)
+
+-- ---- stamps
+
+pub stamped-start : {c m : List ℕ} → 512 ≡ length m → Stamped c 0 m
+stamped-start e = record { long = e; each = λ i h. absurd (omega arith) }
+
+-- one more takes none away
+stamp-stays : (m : List ℕ) (p v : ℕ) → p < length m → hasStamp m v ≡ true → (u : Bool) → eqb (v % 512) p ≡ u → hasStamp (set m p 1) v ≡ true
+stamp-stays m p v h t true e = rw (eqb-true (v % 512) p e, getD-set-same m p 1 0 h)
+stamp-stays m p v h t false e = rw (getD-set-other m p (v % 512) 1 0 (eqb-false (v % 512) p e)) t
+
+module _ {c m : List ℕ} {k : ℕ} (a : Stamped c k m) where
+  each-next : (i : ℕ) → Dec (i < k) → i < k + 1 → hasStamp (set m (getD c k 0 % 512) 1) (getD c i 0) ≡ true
+  each-next i (yes h) g = stamp-stays m (getD c k 0 % 512) (getD c i 0) (omega (arith, a .long, mod-lt (getD c k 0) {m = 512} (omega arith))) (a .each i h) _ refl
+  each-next i (no h) g =
+      let e : i ≡ k = omega arith in
+      rw (e, getD-set-same m (getD c k 0 % 512) 1 0 (omega (arith, a .long, mod-lt (getD c k 0) {m = 512} (omega arith))))
+
+  pub stamped-next : Stamped c (k + 1) (set m (getD c k 0 % 512) 1)
+  stamped-next = record { long = a .long ∙ sym (length-set m (getD c k 0 % 512) 1); each = λ i. each-next i (decLt i k) }
+
+-- a tetrahedron with a vertex that has none is not one of the cell's
+pub no-stamp : (ls qs c m : List ℕ) (j : ℕ) → Stamped c (length c) m → all (hasStamp m) (row4 ls j) ≡ false → belongs (meshOf [] ls []) (quadsOf qs) c (tetAt ls [] j) ≡ false
+unfolding belongs
+no-stamp ls qs c m j a e =
+    let f : all (λ v. isIn v c) (row4 ls j) ≡ false = fails _ (all (hasStamp m) (row4 ls j)) (λ t. all-from (hasStamp m) (row4 ls j) (λ v h. let p = place-in v c (all-at (λ v. isIn v c) (row4 ls j) t h) in rw (p .2) at (a .each (p .0) (p .1)))) e in
+    rw f
 
 -- ---- over a row
 
@@ -65,38 +95,56 @@ pub around-rises : (ls : List ℕ) (v : ℕ) → Rising (around ls v)
 unfolding around
 around-rises ls v = record { up = keep-rises (λ i. isIn v (row4 ls i)) (length ls / 4) 0 }
 
-pub least-start : {b : ℕ → Bool} {lo hi : ℕ} {row : List ℕ} → Least b lo hi row 0 hi
-least-start = record { le = omega arith; is = λ h. absurd (omega arith); none = λ i h. absurd (omega arith) }
-
 -- none so far
-module _ {b : ℕ → Bool} {lo hi k : ℕ} {row : List ℕ} (a : Least b lo hi row k hi) where
-  none-next : {r : Bool} → Hit (b (getD row k 0)) lo (getD row k 0) r → r ≡ false → (i : ℕ) → Dec (i < k) → i < k + 1 → lo ≤ getD row i 0 → getD row i 0 < hi → b (getD row i 0) ≡ false
-  none-next l f i (yes h) g p q = a .none i h p q
-  none-next l f i (no h) g p q = let e : i ≡ k = omega arith in rw e (l .none f (rw e at p))
+module _ {b : ℕ → Bool} {lo k : ℕ} {row : List ℕ} (a : Passed b lo row k) where
+  none-next : {r : Bool} → Hit (b (getD row k 0)) lo (getD row k 0) r → r ≡ false → (i : ℕ) → Dec (i < k) → i < k + 1 → lo ≤ getD row i 0 → b (getD row i 0) ≡ false
+  none-next l f i (yes h) g p = a .none i h p
+  none-next l f i (no h) g p = let e : i ≡ k = omega arith in rw e (l .none f (rw e at p))
 
-  pub least-next : {r : Bool} → Hit (b (getD row k 0)) lo (getD row k 0) r → r ≡ false → Least b lo hi row (k + 1) hi
-  least-next l f = record { le = omega arith; is = λ h. absurd (omega arith); none = λ i. none-next l f i (decLt i k) }
+  pub passed-next : {r : Bool} → k < length row → Hit (b (getD row k 0)) lo (getD row k 0) r → r ≡ false → Passed b lo row (k + 1)
+  passed-next m l f = record { low = omega arith; none = λ i. none-next l f i (decLt i k) }
+
+  pub least-none : (hi : ℕ) → length row ≤ k → Least b lo hi row (length row) hi
+  least-none hi h = record { le = omega arith; is = λ g. absurd (omega arith); none = λ i g p q. a .none i (omega arith) p }
 
   module _ (u : Rising row) (m : k < length row) where
     -- from place k on, no number is below that at k
-    none-after : (r : ℕ) → r ≤ hi → r ≤ getD row k 0 → (i : ℕ) → Dec (i < k) → i < length row → lo ≤ getD row i 0 → getD row i 0 < r → b (getD row i 0) ≡ false
-    none-after r t e i (yes h) g p q = a .none i h p (omega arith)
-    none-after r t e i (no h) g p q = absurd (omega (arith, u .up k i (omega arith) g))
+    none-after : (r : ℕ) → r ≤ getD row k 0 → (i : ℕ) → Dec (i < k) → i < length row → lo ≤ getD row i 0 → getD row i 0 < r → b (getD row i 0) ≡ false
+    none-after r e i (yes h) g p q = a .none i h p
+    none-after r e i (no h) g p q = absurd (omega (arith, u .up k i (omega arith) g))
 
-    pub least-past : hi ≤ getD row k 0 → Least b lo hi row (length row) hi
-    least-past e = record { le = omega arith; is = λ h. absurd (omega arith); none = λ i. none-after hi (omega arith) e i (decLt i k) }
+    pub least-past : {hi : ℕ} → hi ≤ getD row k 0 → Least b lo hi row (length row) hi
+    least-past {hi} e = record { le = omega arith; is = λ h. absurd (omega arith); none = λ i. none-after hi e i (decLt i k) }
 
-    pub least-hit : {r : Bool} → getD row k 0 < hi → Hit (b (getD row k 0)) lo (getD row k 0) r → r ≡ true → Least b lo hi row (length row) (getD row k 0)
-    least-hit h l t = record { le = omega arith; is = λ g. l .is t; none = λ i. none-after (getD row k 0) (omega arith) (omega arith) i (decLt i k) }
+    pub least-hit : {hi : ℕ} {r : Bool} → getD row k 0 < hi → Hit (b (getD row k 0)) lo (getD row k 0) r → r ≡ true → Least b lo hi row (length row) (getD row k 0)
+    least-hit h l t = record { le = omega arith; is = λ g. l .is t; none = λ i. none-after (getD row k 0) (omega arith) i (decLt i k) }
+
+-- ---- the places that rows are read up to
+
+zeros : (n i : ℕ) → _≡_ {A = ℕ} (getD (replicate n 0) i 0) 0
+zeros zero i = refl
+zeros (suc n) zero = refl
+zeros (suc n) (suc i) = zeros n i
+
+pub reached-start : (b : ℕ → Bool) (ls c : List ℕ) (lo n : ℕ) → Reached b ls c lo (replicate n 0)
+reached-start b ls c lo n = record { at = λ k. rw (zeros n k) (record { low = omega arith; none = λ i h. absurd (omega arith) }) }
+
+module _ {b : ℕ → Bool} {ls c : List ℕ} {lo : ℕ} {places : List ℕ} (a : Reached b ls c lo places) where
+  pub reached-from : {next : ℕ} → lo ≤ next → Reached b ls c next places
+  reached-from h = record { at = λ k. record { low = a .at k .low; none = λ i g p. a .at k .none i g (omega arith) } }
+
+  at-put : (k : ℕ) {p : ℕ} → Passed b lo (around ls (getD c k 0)) p → Dec (k < length places) → (j : ℕ) (u : Bool) → eqb j k ≡ u → Passed b lo (around ls (getD c j 0)) (getD (set places k p) j 0)
+  at-put k {p} q (yes h) j true e = rw (eqb-true j k e, getD-set-same places k p 0 h) q
+  at-put k {p} q (no h) j true e = rw (set-out places k p (omega arith)) (a .at j)
+  at-put k {p} q d j false e = rw (getD-set-other places k j p 0 (eqb-false j k e)) (a .at j)
+
+  pub reached-put : (k : ℕ) {p : ℕ} → Passed b lo (around ls (getD c k 0)) p → Reached b ls c lo (set places k p)
+  reached-put k q = record { at = λ j. at-put k q (decLt k (length places)) j (eqb j k) refl }
 
 -- ---- over the corners
 
 pub next-start : {b : ℕ → Bool} {ls c out : List ℕ} {lo hi : ℕ} → Next b ls c lo hi 0 out hi
 next-start = record { le = omega arith; is = λ h. absurd (omega arith); none = λ i j h. absurd (omega arith) }
-
-or-none : (a b : Bool) → (a || b) ≡ false → b ≡ false
-or-none true b e = absurd (false≢true (sym e))
-or-none false b e = e
 
 module _ {b : ℕ → Bool} {ls c out : List ℕ} {lo hi k r : ℕ} (a : Next b ls c lo hi k out r) where
   -- a vertex left out
@@ -129,74 +177,50 @@ module _ {b : ℕ → Bool} {ls c out : List ℕ} {lo hi k r : ℕ} (a : Next b 
 pub next-visit : {b : ℕ → Bool} {ls c out : List ℕ} {lo hi k r s : ℕ} → hi ≤ length ls / 4 → Next b ls c lo hi k out r → Visited b lo r out (getD c k 0) (around ls (getD c k 0)) s → Next b ls c lo hi (k + 1) out s
 next-visit top a v = ⊎-elim (λ h. rw (h .1) (next-out a (h .0))) (λ h. next-corner a top h) (v .is)
 
-three : (p q r : ℕ) → p < 3 → q < 3 → r < 3 → (p ≡ q → ⊥) → (p ≡ r → ⊥) → (q ≡ r → ⊥) → p + q + r ≡ 3
-three p q r a b c d e f = omega arith
+-- ---- the corners left out
 
-same-sum : (p q r s : ℕ) → p + q + r ≡ 3 → p + q + s ≡ 3 → r ≡ s
-same-sum p q r s e f = omega arith
+any-none : {A : Type 0} (p : A → Bool) (xs : List A) {x : A} → any p xs ≡ false → List·Memᴰ x xs → (u : Bool) → p x ≡ u → p x ≡ false
+any-none p xs e m true f = absurd (false≢true (sym e ∙ any-from p xs m f))
+any-none p xs e m false f = f
 
-pigeon : (p q r s : ℕ) → p < 3 → q < 3 → r < 3 → s < 3 → (p ≡ q → ⊥) → (p ≡ r → ⊥) → (p ≡ s → ⊥) → (q ≡ r → ⊥) → (q ≡ s → ⊥) → (r ≡ s → ⊥) → ⊥
-pigeon p q r s a b c d pq pr ps qr qs rs = rs (same-sum p q r s (three p q r a b c pq pr qr) (three p q s a b d pq ps qs))
+not-all : (p : ℕ → Bool) (xs : List ℕ) → all p xs ≡ false → (x : ℕ) × List·Memᴰ x xs × (p x ≡ false)
+not-all p [] e = absurd (false≢true (sym e))
+not-all p (x ∷ xs) e = go (p x) refl e (not-all p xs)
+  where
+    go : (b : Bool) → p x ≡ b → (b && all p xs) ≡ false → (all p xs ≡ false → (y : ℕ) × List·Memᴰ y xs × (p y ≡ false)) → (y : ℕ) × List·Memᴰ y (x ∷ xs) × (p y ≡ false)
+    go false q e r = (x, List·Memᴰ·head refl, q)
+    go true q e r = let h = r e in (h .0, List·Memᴰ·tail (h .1), h .2)
 
-lt-le : {p n : ℕ} → p < n → n ≤ 3 → p < 3
-lt-le h k = omega arith
+one-of : (b : Bool) → (b || (b || (b || (b || false)))) ≡ true → b ≡ true
+one-of true e = e
+one-of false e = e
 
--- four different numbers do not all stand among three
-apart : (xs : List ℕ) {a b p q : ℕ} → eqb a b ≡ false → getD xs p 0 ≡ a → getD xs q 0 ≡ b → p ≡ q → ⊥
-apart xs {a} {b} {p} {q} e f g h = eqb-false a b e (sym f ∙ ap (λ n. getD xs n 0) h ∙ g)
-
-not-false-of : (a : Bool) → not a ≡ true → a ≡ false
-not-false-of true e = sym e
-not-false-of false e = refl
-
-or-first : (a b : Bool) → (a || b) ≡ false → a ≡ false
-or-first true b e = e
-or-first false b e = refl
-
-pub four : (xs : List ℕ) (w x y z : ℕ) → length xs ≤ 3 → distinct (w ∷ x ∷ y ∷ z ∷ []) ≡ true → isIn w xs ≡ true → isIn x xs ≡ true → isIn y xs ≡ true → isIn z xs ≡ true → ⊥
-four xs w x y z h d iw ix iy iz =
-    let pw = place-in w xs iw in
-    let px = place-in x xs ix in
-    let py = place-in y xs iy in
-    let pz = place-in z xs iz in
-    let dw = not-false-of (eqb w x || (eqb w y || (eqb w z || false))) (and-left _ _ d) in
-    let d2 = and-right (not (eqb w x || (eqb w y || (eqb w z || false)))) (distinct (x ∷ y ∷ z ∷ [])) d in
-    let dx = not-false-of (eqb x y || (eqb x z || false)) (and-left _ _ d2) in
-    let d3 = and-right (not (eqb x y || (eqb x z || false))) (distinct (y ∷ z ∷ [])) d2 in
-    let dy = not-false-of (eqb y z || false) (and-left _ _ d3) in
-    let n1 = apart xs (or-first (eqb w x) _ dw) (pw .2) (px .2) in
-    let n2 = apart xs (or-first (eqb w y) _ (or-none (eqb w x) _ dw)) (pw .2) (py .2) in
-    let n3 = apart xs (or-first (eqb w z) _ (or-none (eqb w y) _ (or-none (eqb w x) _ dw))) (pw .2) (pz .2) in
-    let n4 = apart xs (or-first (eqb x y) _ dx) (px .2) (py .2) in
-    let n5 = apart xs (or-first (eqb x z) _ (or-none (eqb x y) _ dx)) (px .2) (pz .2) in
-    let n6 = apart xs (or-first (eqb y z) _ dy) (py .2) (pz .2) in
-    pigeon (pw .0) (px .0) (py .0) (pz .0) (lt-le (pw .1) h) (lt-le (px .1) h) (lt-le (py .1) h) (lt-le (pz .1) h) n1 n2 n3 n4 n5 n6
-
-or-true : (a : Bool) → (a || true) ≡ true
-or-true true = refl
-or-true false = refl
-
--- each of four numbers is one of the four
-in-here : (w x y z : ℕ) → (isIn w (w ∷ x ∷ y ∷ z ∷ []) ≡ true) × ((isIn x (w ∷ x ∷ y ∷ z ∷ []) ≡ true) × ((isIn y (w ∷ x ∷ y ∷ z ∷ []) ≡ true) × (isIn z (w ∷ x ∷ y ∷ z ∷ []) ≡ true)))
-in-here w x y z = (
-  rw (eq-eqb w w refl),
-  (
-    rw (eq-eqb x x refl) (or-true (eqb x w)),
-    (
-      rw (eq-eqb y y refl, or-true (eqb y x)) (or-true (eqb y w)),
-      rw (eq-eqb z z refl, or-true (eqb z y), or-true (eqb z x)) (or-true (eqb z w)),
-    ),
-  ),
-)
-
--- every tetrahedron of the cell has a corner of it that is not left out
-module _ (ls qs c : List ℕ) (n : ℕ) (w : Labelled ls n) where
+module _ (ls qs c : List ℕ) where
   abbrev test : ℕ → Bool
   test j = belongs (meshOf [] ls []) (quadsOf qs) c (tetAt ls [] j)
 
-  pub next-done : {out : List ℕ} {lo k r : ℕ} → length out ≤ 3 → Next test ls c lo (length ls / 4) k out r → length c ≤ k → NextOf test lo (length ls / 4) r
+  -- those of a quadrilateral
+  pub aside-quad : (i : ℕ) → i < length qs / 4 → Aside test ls (at c (row4 qs i))
   unfolding belongs
-  next-done {out} {lo} {k} {r} few a h =
+  aside-quad i h = record { apart = λ j g t. any-none (λ q. all (λ v. isIn v (at c q)) (row4 ls j)) (fours qs) (not-true _ (and-right (all (λ v. isIn v c) (row4 ls j)) _ t)) (map-has (row4 qs) (upTo (length qs / 4)) (from-has 0 (length qs / 4) i (omega arith) (omega arith))) _ refl }
+
+  -- one number alone: a tetrahedron has four
+  pub aside-none : {n : ℕ} → Labelled ls n → (x : ℕ) → Aside test ls (x ∷ x ∷ x ∷ x ∷ [])
+  aside-none w x = record { apart = λ j g t. go j g (all (λ v. isIn v (x ∷ x ∷ x ∷ x ∷ [])) (row4 ls j)) refl }
+    where
+      go : (j : ℕ) → j < length ls / 4 → (u : Bool) → all (λ v. isIn v (x ∷ x ∷ x ∷ x ∷ [])) (row4 ls j) ≡ u → u ≡ false
+      go j g false e = refl
+      go j g true e =
+          let v0 = getD ls (4 * j) 0 in
+          let v1 = getD ls (4 * j + 1) 0 in
+          let i0 = one-of (eqb v0 x) (and-left (isIn v0 (x ∷ x ∷ x ∷ x ∷ [])) _ e) in
+          let i1 = one-of (eqb v1 x) (and-left (isIn v1 (x ∷ x ∷ x ∷ x ∷ [])) _ (and-right (isIn v0 (x ∷ x ∷ x ∷ x ∷ [])) _ e)) in
+          absurd (false≢true (rw (eq-eqb v0 v1 (eqb-true v0 x i0 ∙ sym (eqb-true v1 x i1))) at (w .apart j g)))
+
+  -- every tetrahedron of the cell has a corner of it that is not left out
+  pub next-done : {out : List ℕ} {lo k r : ℕ} → Aside test ls out → Next test ls c lo (length ls / 4) k out r → length c ≤ k → NextOf test lo (length ls / 4) r
+  unfolding belongs
+  next-done {out} {lo} {k} {r} w a h =
       record {
         le = a .le;
         from = up (decLt r (length ls / 4));
@@ -208,37 +232,13 @@ module _ (ls qs c : List ℕ) (n : ℕ) (w : Labelled ls n) where
       up (yes g) l = a .is g .0
       up (no g) l = omega (arith, a .le)
 
-      -- a vertex of it that is not left out settles it
-      seen : (j x : ℕ) → lo ≤ j → j < r → isIn x (row4 ls j) ≡ true → isIn x c ≡ true → (u : Bool) → isIn x out ≡ u → (test j ≡ false) ⊎ (isIn x out ≡ true)
-      seen j x p q m i true e = inr e
-      seen j x p q m i false e =
-          let y = place-in x c i in
-          inl (a .none (y .0) j (omega (arith, y .1)) (rw (y .2) e) (rw (y .2) m) p q)
-
       go : (j : ℕ) → lo ≤ j → j < r → (u : Bool) → test j ≡ u → test j ≡ false
       go j p q false e = e
       go j p q true e =
-          let v0 = getD ls (4 * j) 0 in
-          let v1 = getD ls (4 * j + 1) 0 in
-          let v2 = getD ls (4 * j + 2) 0 in
-          let v3 = getD ls (4 * j + 3) 0 in
-          let al = and-left (all (λ v. isIn v c) (row4 ls j)) _ e in
-          let i0 = and-left (isIn v0 c) (all (λ v. isIn v c) (v1 ∷ v2 ∷ v3 ∷ [])) al in
-          let a1 = and-right (isIn v0 c) (all (λ v. isIn v c) (v1 ∷ v2 ∷ v3 ∷ [])) al in
-          let i1 = and-left (isIn v1 c) (all (λ v. isIn v c) (v2 ∷ v3 ∷ [])) a1 in
-          let a2 = and-right (isIn v1 c) (all (λ v. isIn v c) (v2 ∷ v3 ∷ [])) a1 in
-          let i2 = and-left (isIn v2 c) (all (λ v. isIn v c) (v3 ∷ [])) a2 in
-          let i3 = and-left (isIn v3 c) true (and-right (isIn v2 c) (all (λ v. isIn v c) (v3 ∷ [])) a2) in
-          let m0 = in-here v0 v1 v2 v3 in
-          ⊎-elim (λ f. f) (λ o0.
-          ⊎-elim (λ f. f) (λ o1.
-          ⊎-elim (λ f. f) (λ o2.
-          ⊎-elim (λ f. f) (λ o3.
-          absurd (four out v0 v1 v2 v3 few (w .apart j (omega (arith, a .le))) o0 o1 o2 o3))
-          (seen j v3 p q (m0 .1 .1 .1) i3 (isIn v3 out) refl))
-          (seen j v2 p q (m0 .1 .1 .0) i2 (isIn v2 out) refl))
-          (seen j v1 p q (m0 .1 .0) i1 (isIn v1 out) refl))
-          (seen j v0 p q (m0 .0) i0 (isIn v0 out) refl)
+          let x = not-all (λ v. isIn v out) (row4 ls j) (w .apart j (omega (arith, a .le)) e) in
+          let y = place-in (x .0) c (all-at (λ v. isIn v c) (row4 ls j) (and-left (all (λ v. isIn v c) (row4 ls j)) _ e) (x .1)) in
+          let m = any-from (eqb (x .0)) (row4 ls j) (x .1) (eq-eqb (x .0) (x .0) refl) in
+          a .none (y .0) j (omega (arith, y .1)) (rw (y .2) (x .2)) (rw (y .2) m) p q
 
 -- ---- one after the other
 

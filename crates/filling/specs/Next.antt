@@ -1,19 +1,29 @@
 -- The next number that passes a test, looked for among the numbers of a row, and around the corners of a tuple.
 -- Assumes nothing.
-use Prim.Native.Nat.{ℕ, _≤_, _<_}
+use Prim.Native.Nat.{ℕ, _/_, _%_, _≤_, _<_}
 use mathlib.Core.Path.{_≡_}
-use mathlib.Core.Bool.{Bool, true, false}
+use mathlib.Core.Bool.{Bool, true, false, not}
 use mathlib.Core.List.{List, [], _∷_}
 use mathlib.Core.Logic.{_⊎_}
+use lib.Dec.{eqb}
 use lib.ListN.{length, getD}
-use Rattle.base.specs.Lists.{isIn}
-use Rattle.space.specs.Arrays.{row4}
+use Rattle.base.specs.Lists.{all, isIn}
+use Rattle.space.specs.Arrays.{row4, around}
 use Rattle.filling.specs.declared.Crowd.{Crowd}
 
 -- j passes the test b and is not below lo
 pub record Hit (b : Bool) (lo j : ℕ) (r : Bool) : Type 0 where
   pub is : r ≡ true → (lo ≤ j) × (b ≡ true)
   pub none : r ≡ false → lo ≤ j → b ≡ false
+
+-- there is a stamp for v
+abbrev pub hasStamp : List ℕ → ℕ → Bool
+hasStamp m v = not (eqb (getD m (v % 512) 0) 0)
+
+-- there is one for each of the first k numbers of c
+pub record Stamped (c : List ℕ) (k : ℕ) (m : List ℕ) : Type 0 where
+  pub long : 512 ≡ length m
+  pub each : (i : ℕ) → i < k → hasStamp m (getD c i 0) ≡ true
 
 -- no number of the row is below one before it
 pub record Rising (row : List ℕ) : Type 0 where
@@ -25,15 +35,24 @@ pub record Least (b : ℕ → Bool) (lo hi : ℕ) (row : List ℕ) (k r : ℕ) :
   pub is : r < hi → (lo ≤ r) × (b r ≡ true)
   pub none : (i : ℕ) → i < k → lo ≤ getD row i 0 → getD row i 0 < r → b (getD row i 0) ≡ false
 
--- the same among the tetrahedra around the first k vertices of c, but for those left out
+-- the row is read up to place p: no number before that, from lo on, passes b
+pub record Passed (b : ℕ → Bool) (lo : ℕ) (row : List ℕ) (p : ℕ) : Type 0 where
+  pub low : p ≤ length row
+  pub none : (i : ℕ) → i < p → lo ≤ getD row i 0 → b (getD row i 0) ≡ false
+
+-- the least among the tetrahedra around the first k vertices of c, but for those left out
 pub record Next (b : ℕ → Bool) (ls c : List ℕ) (lo hi k : ℕ) (out : List ℕ) (r : ℕ) : Type 0 where
   pub le : r ≤ hi
   pub is : r < hi → (lo ≤ r) × (b r ≡ true)
   pub none : (i j : ℕ) → i < k → isIn (getD c i 0) out ≡ false → isIn (getD c i 0) (row4 ls j) ≡ true → lo ≤ j → j < r → b j ≡ false
 
--- the three vertices left out
+-- the four vertices left out
 abbrev pub leftOut : Crowd → List ℕ
-leftOut w = w .a ∷ w .b ∷ w .d ∷ []
+leftOut w = w .a ∷ w .b ∷ w .d ∷ w .e ∷ []
+
+-- no tetrahedron that passes b has all its vertices among those left out
+pub record Aside (b : ℕ → Bool) (ls out : List ℕ) : Type 0 where
+  pub apart : (j : ℕ) → j < length ls / 4 → b j ≡ true → all (λ v. isIn v out) (row4 ls j) ≡ false
 
 -- one vertex more, with this row: it is left out, or the least is taken with those of its row
 pub record Visited (b : ℕ → Bool) (lo hi : ℕ) (out : List ℕ) (v : ℕ) (row : List ℕ) (r : ℕ) : Type 0 where
@@ -45,3 +64,7 @@ pub record NextOf (b : ℕ → Bool) (lo hi r : ℕ) : Type 0 where
   pub from : lo ≤ hi → lo ≤ r
   pub is : r < hi → b r ≡ true
   pub none : (j : ℕ) → lo ≤ j → j < r → b j ≡ false
+
+-- the row of each vertex of c is read up to its place
+pub record Reached (b : ℕ → Bool) (ls c : List ℕ) (lo : ℕ) (places : List ℕ) : Type 0 where
+  pub at : (k : ℕ) → Passed b lo (around ls (getD c k 0)) (getD places k 0)

@@ -2,13 +2,13 @@
 use mathlib.Core.Path.{_≡_, refl, sym, _∙_, ap, fun-ext}
 use mathlib.Core.Bool.{Bool, true, false, cond}
 use mathlib.Core.List.{List, [], _∷_, _++_, map}
-use Prim.Native.Nat.{ℕ, zero, suc, _+_, _-_, _/_, _≤_, _<_}
+use Prim.Native.Nat.{ℕ, zero, suc, _+_, _-_, _*_, _/_, _≤_, _<_}
 use native.Mathlib.Numerals.{add-one}
 use native.Mathlib.Omega.{arith}
 use lib.Dec.{eqb}
 use lib.IntN.{ℤ}
 use lib.ListN.{length, getD, take, set, replicate, length-replicate, length-set, length-append}
-use lib.Seq.{take-all, take-at, take-suc-set}
+use lib.Seq.{length-take-le, take-all, take-at, take-suc-set}
 use Rattle.base.specs.Lists.{all, count, keep, from, upTo, pad}
 use Rattle.base.proofs.Lists.{keep-map}
 use Rattle.space.specs.Mesh.{Tetrahedron, holds}
@@ -127,3 +127,8 @@ module _ {b : ℕ → Bool} {i k : ℕ} {l : List ℕ} (g : Gathered b i l k) wh
 pub gathered-all : (ls qs c : List ℕ) {i k : ℕ} {l : List ℕ} → Gathered (λ j. belongs (meshOf [] ls []) (quadsOf qs) c (tetAt ls [] j)) i l k → i ≡ length ls / 4 → take k l ≡ numbersOf (meshOf [] ls []) (quadsOf qs) c
 gathered-all ls qs c g e =
     g .is ∙ ap (λ n. keep (λ j. belongs (meshOf [] ls []) (quadsOf qs) c (tetAt ls [] j)) (upTo n)) e ∙ sym (numbers-are [] ls [] (quadsOf qs) c)
+
+-- ---- room for 8 entries a tetrahedron
+
+pub room-is : (k : ℕ) (has list : List ℕ) → 8 * k ≤ length has → k ≤ length list → length (take (8 * k) has) ≡ 8 * length (take k list)
+room-is k has list g h = length-take-le (8 * k) has g ∙ ap (λ j. 8 * j) (sym (length-take-le k list h))

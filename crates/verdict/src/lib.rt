@@ -1,7 +1,7 @@
 // The cell test: the first of conditions 1 to 6 that a tuple fails, and the tetrahedra of a cell, for a kind and its eight numbers.
 ghost use mathlib.Core.Path.{_≡_};
 ghost use mathlib.Core.List.{[]};
-ghost use Prim.Native.Nat.{_/_, _≤_};
+ghost use Prim.Native.Nat.{_*_, _/_, _≤_};
 ghost use lib.ListN.{length, take};
 ghost use Rattle.space.specs.Arrays.{meshOf};
 ghost use Rattle.around.specs.Build.{Within};
@@ -10,7 +10,7 @@ ghost use Rattle.templates.specs.Tables.{hexahedron, prism, pyramid, templateOf
 ghost use Rattle.cells.specs.Cells.{inside, numbersOf, isCell, firstFailing};
 ghost use Rattle.cells.specs.Rows.{threes, fours, tabled, quadsOf};
 ghost use Rattle.filling.specs.Found.{Found};
-ghost use Rattle.filling.specs.Filled.{sidesIn, fills, onePart};
+ghost use Rattle.filling.specs.Filled.{sidesIn, Lettered, fills, onePart};
 ghost use Rattle.verdict.specs.Judged.{Arrays, lastOf, lastFailing, isSolid};
 use cells::has_edges;
 use cells::has_faces;
@@ -40,7 +40,7 @@ use templates::PYRAMID_TRIPLES;
 
 // ---- conditions 5 and 6: 5 or 6, whichever fails first, or 0
 
-// By the tetrahedra listed.
+// By the tetrahedra listed, with room for 8 entries a tetrahedron.
 fn judge_list(
     labels: &[u16],
     parts: &[u16],
@@ -49,11 +49,13 @@ fn judge_list(
     triangles: &[u8],
     quads: &[u8],
     within: &[u8],
+    has: &mut [u8],
 ) -> u8
     requires { ⌜ Within (length (now labels) / 4) (now list) × Within (length (now parts)) (now list) ⌝ }
+    requires { ⌜ (length (now has) ≡ 8 * length (now list)) × Lettered (now triangles) (now quads) (now within) ⌝ }
     ensures { λ r. ⌜ r ≡ lastOf (fills (sidesIn (now (labels .entry)) (now (list .entry)) (now (c .entry))) (threes (now (triangles .entry))) (fours (now (quads .entry))) (threes (now (within .entry)))) (onePart (now (parts .entry)) (now (list .entry))) ⌝ }
 {
-    if !is_filled(labels, list, c, triangles, quads, within) {
+    if !is_filled(labels, list, c, triangles, quads, within, has) {
         return 5;
     }
     if !is_one_part(parts, list) {
@@ -72,6 +74,7 @@ fn judge_many(
     within: &[u8],
 ) -> u8
     requires { ⌜ (length (now labels) / 4 ≤ 2048) × (length (now parts) ≡ length (now labels) / 4) ⌝ }
+    requires { ⌜ Lettered (now triangles) (now quads) (now within) ⌝ }
     ensures { λ r. ⌜ r ≡ lastFailing (now (labels .entry)) (now (parts .entry)) (now (c .entry)) (now (triangles .entry)) (now (quads .entry)) (now (within .entry)) ⌝ }
 {
     let t = labels.len() / 4;
@@ -85,7 +88,17 @@ fn judge_many(
         }
         i += 1;
     }
-    judge_list(labels, parts, &list[..k], c, triangles, quads, within)
+    let mut has = [0u8; 16384];
+    judge_list(
+        labels,
+        parts,
+        &list[..k],
+        c,
+        triangles,
+        quads,
+        within,
+        &mut has[..8 * k],
+    )
 }
 
 // Of a cell with at most 25, which were found.
@@ -99,11 +112,22 @@ fn judge_few(
     within: &[u8],
 ) -> u8
     requires { ⌜ Found (numbersOf (meshOf [] (now labels) []) (quadsOf (now quads)) (now c)) found × ((found .count ≤ 25) × (length (now parts) ≡ length (now labels) / 4)) ⌝ }
+    requires { ⌜ Lettered (now triangles) (now quads) (now within) ⌝ }
     ensures { λ r. ⌜ r ≡ lastFailing (now (labels .entry)) (now (parts .entry)) (now (c .entry)) (now (triangles .entry)) (now (quads .entry)) (now (within .entry)) ⌝ }
 {
     let k = found.count;
     let list = found.list;
-    judge_list(labels, parts, &list[..k], c, triangles, quads, within)
+    let mut has = [0u8; 200];
+    judge_list(
+        labels,
+        parts,
+        &list[..k],
+        c,
+        triangles,
+        quads,
+        within,
+        &mut has[..8 * k],
+    )
 }
 
 // Of a tuple.
@@ -119,6 +143,7 @@ fn judge_tets(
     within: &[u8],
 ) -> u8
     requires { ⌜ Indexed (now labels) n (now offsets) (now entries) × (length (now parts) ≡ length (now labels) / 4) ⌝ }
+    requires { ⌜ Lettered (now triangles) (now quads) (now within) ⌝ }
     ensures { λ r. ⌜ r ≡ lastFailing (now (labels .entry)) (now (parts .entry)) (now (c .entry)) (now (triangles .entry)) (now (quads .entry)) (now (within .entry)) ⌝ }
 {
     let found = find(labels, n, offsets, entries, c, quads);
@@ -149,6 +174,7 @@ fn judge_by(
 ) -> u8
     requires { ⌜ Arrays (now coords) (now labels) (now parts) n (now offsets) (now entries) ⌝ }
     requires { ⌜ threes (now within) ≡ inside (tabled corners (now edges) (now triangles) (now quads) (now triples)) ⌝ }
+    requires { ⌜ Lettered (now triangles) (now quads) (now within) ⌝ }
     ensures { λ r. ⌜ r ≡ firstFailing (meshOf (now (coords .entry)) (now (labels .entry)) (now (parts .entry))) (tabled corners (now (edges .entry)) (now (triangles .entry)) (now (quads .entry)) (now (triples .entry))) (now (c .entry)) ⌝ }
 {
     if !is_tuple(coords, c, corners) {
@@ -321,6 +347,7 @@ fn is_solid(
 ) -> bool
     requires { ⌜ Arrays (now coords) (now labels) (now parts) n (now offsets) (now entries) ⌝ }
     requires { ⌜ threes (now within) ≡ inside (tabled corners [] (now triangles) (now quads) (now triples)) ⌝ }
+    requires { ⌜ Lettered (now triangles) (now quads) (now within) ⌝ }
     ensures { λ r. ⌜ r ≡ isSolid (meshOf (now (coords .entry)) (now (labels .entry)) (now (parts .entry))) (tabled corners [] (now (triangles .entry)) (now (quads .entry)) (now (triples .entry))) (now (c .entry)) ⌝ }
 {
     if !is_tuple(coords, c, corners) {

@@ -4,23 +4,23 @@ use Prim.Native.Nat.{_/_, _-_}
 use lib.ListN.{length}
 use borrow.Author.Tests.{not-true, not-false}
 use Rattle.space.specs.Arrays.{row4}
-use Rattle.filling.specs.Filled.{sidesIn, covers}
+use Rattle.filling.specs.Filled.{sidesBy, covers}
 use Rattle.base.proofs.Loop.{AllUp, all-start, all-next, all-fails, all-done}
 use native.Mathlib.Omega.{arith}
 use Rattle.filling.proofs.all_covered.Statement.{statement}
 use Rattle.filling.proofs.all_covered.Tie as tie
 
 abbrev Inv-loop : tie.InvT-loop
-Inv-loop labels list c quads k i₀ i = (k ≡ length quads / 4) × AllUp (covers (sidesIn labels list c)) (row4 quads) k i
+Inv-loop has quads k i₀ i = (k ≡ length quads / 4) × AllUp (covers (sidesBy has)) (row4 quads) k i
 
 abbrev μ-loop : tie.MeasureT-loop
-μ-loop labels list c quads k i₀ i = k - i
+μ-loop has quads k i₀ i = k - i
 
 loop-holds : tie.Need-loop-holds Inv-loop μ-loop
 loop-holds c = (refl, all-start)
 
 covered-requires : tie.Need-covered-requires Inv-loop μ-loop
-covered-requires c κs = (omega arith, c .before .before .before .before .before .before .pre)
+covered-requires c κs = (omega arith, c .before .before .before .before .pre)
 
 returns : tie.Need-returns Inv-loop μ-loop
 returns c = all-fails (c .before .before .before .loop .inv .1) (omega arith) (sym (c .before .covered .ensures) ∙ not-true _ (c .if1 .taken))

@@ -5,27 +5,27 @@ use lib.ListN.{length}
 use borrow.Author.Tests.{eq-eqb, ne-eqb}
 use Rattle.cells.specs.Cells.{one}
 use Rattle.cells.specs.Rows.{row3}
-use Rattle.filling.specs.Filled.{sidesIn, once}
+use Rattle.filling.specs.Filled.{sidesBy, once}
 use Rattle.base.proofs.Loop.{AllUp, all-start, all-next, all-fails, all-done}
 use native.Mathlib.Omega.{arith}
 use Rattle.filling.proofs.all_once.Statement.{statement}
 use Rattle.filling.proofs.all_once.Tie as tie
 
 abbrev Inv-loop : tie.InvT-loop
-Inv-loop labels list c rows k i₀ i = (k ≡ length rows / 3) × AllUp (once (sidesIn labels list c)) (row3 rows) k i
+Inv-loop has rows k i₀ i = (k ≡ length rows / 3) × AllUp (once (sidesBy has)) (row3 rows) k i
 
 abbrev μ-loop : tie.MeasureT-loop
-μ-loop labels list c rows k i₀ i = k - i
+μ-loop has rows k i₀ i = k - i
 
 loop-holds : tie.Need-loop-holds Inv-loop μ-loop
 loop-holds c = (refl, all-start)
 
 sides-row-requires : tie.Need-sides-row-requires Inv-loop μ-loop
-sides-row-requires c κs = (omega arith, c .before .before .before .before .before .before .pre)
+sides-row-requires c κs = (omega arith, c .before .before .before .before .pre)
 
 returns : tie.Need-returns Inv-loop μ-loop
 unfolding one
-returns c = all-fails (c .before .before .before .loop .inv .1) (omega arith) (rw (sym (c .before .sides-row .ensures)) (ne-eqb _ _ (c .if1 .taken)))
+returns c = all-fails (c .before .before .before .loop .inv .1) (omega arith) (rw (sym (c .before .sides-row .ensures)) (ne-eqb (c .before .sides-row .result) 1 (λ e. omega arith)))
 
 add-i : tie.Need-add-i Inv-loop μ-loop
 add-i c = omega arith
@@ -35,7 +35,7 @@ loop-less c = omega arith
 
 loop-again : tie.Need-loop-again Inv-loop μ-loop
 unfolding one
-loop-again c = (refl, all-next (c .before .before .before .loop .inv .1) (omega arith) (rw (sym (c .before .sides-row .ensures)) (eq-eqb _ _ (c .if1 .left))))
+loop-again c = (refl, all-next (c .before .before .before .loop .inv .1) (omega arith) (rw (sym (c .before .sides-row .ensures)) (eq-eqb (c .before .sides-row .result) 1 (omega arith))))
 
 returns-2 : tie.Need-returns-2 Inv-loop μ-loop
 unfolding one

@@ -4,23 +4,23 @@ use Prim.Native.Nat.{_/_, _-_}
 use lib.ListN.{length}
 use borrow.Author.Tests.{not-true, not-false}
 use Rattle.cells.specs.Rows.{row3}
-use Rattle.filling.specs.Filled.{sidesIn, paired}
+use Rattle.filling.specs.Filled.{sidesBy, paired}
 use Rattle.base.proofs.Loop.{AllUp, all-start, all-next, all-fails, all-done}
 use native.Mathlib.Omega.{arith}
 use Rattle.filling.proofs.all_paired.Statement.{statement}
 use Rattle.filling.proofs.all_paired.Tie as tie
 
 abbrev Inv-loop : tie.InvT-loop
-Inv-loop labels list c rows k i₀ i = (k ≡ length rows / 3) × AllUp (paired (sidesIn labels list c)) (row3 rows) k i
+Inv-loop has rows k i₀ i = (k ≡ length rows / 3) × AllUp (paired (sidesBy has)) (row3 rows) k i
 
 abbrev μ-loop : tie.MeasureT-loop
-μ-loop labels list c rows k i₀ i = k - i
+μ-loop has rows k i₀ i = k - i
 
 loop-holds : tie.Need-loop-holds Inv-loop μ-loop
 loop-holds c = (refl, all-start)
 
 sides-row-requires : tie.Need-sides-row-requires Inv-loop μ-loop
-sides-row-requires c κs = (omega arith, c .before .before .before .before .before .before .pre)
+sides-row-requires c κs = (omega arith, c .before .before .before .before .pre)
 
 is-pair-requires : tie.Need-is-pair-requires Inv-loop μ-loop
 is-pair-requires c κs = omega arith

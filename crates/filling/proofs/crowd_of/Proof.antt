@@ -1,56 +1,45 @@
 -- `filling::crowd_of` meets its contract. Assumes nothing.
-use Prim.Native.Nat.{_-_, _≤_}
+use mathlib.Core.Path.{_≡_, refl}
+use mathlib.Core.Logic.{⊎-elim}
+use mathlib.Core.List.{[]}
+use Prim.Native.Nat.{_/_, _-_, _≤_}
 use lib.ListN.{length}
 use native.Mathlib.Omega.{arith}
-use borrow.Author.Needs.{needs}
+use Rattle.space.specs.Arrays.{tetAt, meshOf}
+use Rattle.cells.specs.Cells.{belongs}
+use Rattle.cells.specs.Rows.{quadsOf}
+use Rattle.filling.specs.Next.{Aside, leftOut}
+use Rattle.filling.proofs.Nearby.{aside-none}
 use Rattle.filling.proofs.crowd_of.Statement.{statement}
 use Rattle.filling.proofs.crowd_of.Tie as tie
 
 abbrev Inv-loop : tie.InvT-loop
-Inv-loop labels n offsets entries c w₀ k₀ w k = k ≤ length c
+Inv-loop labels n offsets entries c quads w₀ m i₀ w i = (m ≡ length quads / 4) × ((i ≤ m) × Aside (λ j. belongs (meshOf [] labels []) (quadsOf quads) c (tetAt labels [] j)) labels (leftOut w))
 
 abbrev μ-loop : tie.MeasureT-loop
-μ-loop labels n offsets entries c w₀ k₀ w k = length c - k
+μ-loop labels n offsets entries c quads w₀ m i₀ w i = m - i
 
 loop-holds : tie.Need-loop-holds Inv-loop μ-loop
-loop-holds c = omega arith
+loop-holds c =
+    let s = c .before .before .before .before .before in
+    (refl, (omega arith, aside-none (s .args .labels .now) (s .args .quads .now) (s .args .c .now) (s .pre .labelled) 65535))
 
-mul-v : tie.Need-mul-v Inv-loop μ-loop
-mul-v c = omega arith
+crowd-at-requires : tie.Need-crowd-at-requires Inv-loop μ-loop
+crowd-at-requires c κs = (c .before .before .before .before .before .before .before .pre, omega arith)
 
-shared-slice-read-v : tie.Need-shared-slice-read-v Inv-loop μ-loop
-shared-slice-read-v c = omega arith
-
-row-of-requires : tie.Need-row-of-requires Inv-loop μ-loop
-row-of-requires c κs = c .before .before .before .before .before .before .before .pre
-
-crowded-by-requires : tie.Need-crowded-by-requires Inv-loop μ-loop
-crowded-by-requires c κs = search needs
-
-add-k : tie.Need-add-k Inv-loop μ-loop
-add-k c = omega arith
+add-i : tie.Need-add-i Inv-loop μ-loop
+add-i c = omega arith
 
 loop-less : tie.Need-loop-less Inv-loop μ-loop
 loop-less c = omega arith
 
 loop-again : tie.Need-loop-again Inv-loop μ-loop
-loop-again c = omega arith
+loop-again c = (refl, (omega arith, ⊎-elim (λ w. rw (w .1) (c .before .before .before .crowd-at .ensures)) (λ w. rw (w .1) (c .before .before .before .before .before .loop .inv .1 .1)) (c .if1 .came)))
 
 returns : tie.Need-returns Inv-loop μ-loop
-returns c = search needs
+returns c = c .before .loop .inv .1 .1
 
 pub crowd-of-spec : {M : Type 1} → statement M
 crowd-of-spec =
     tie.close
-    (tie.spec
-    Inv-loop
-    μ-loop
-    loop-holds
-    mul-v
-    shared-slice-read-v
-    row-of-requires
-    crowded-by-requires
-    add-k
-    loop-less
-    loop-again
-    returns)
+    (tie.spec Inv-loop μ-loop loop-holds crowd-at-requires add-i loop-less loop-again returns)

@@ -9,57 +9,75 @@ use Rattle.base.specs.Lists.{keep}
 use Rattle.space.specs.Arrays.{tetAt, meshOf}
 use Rattle.cells.specs.Cells.{belongs, numbersOf}
 use Rattle.cells.specs.Rows.{quadsOf}
+use Rattle.filling.specs.Next.{Reached}
 use Rattle.filling.proofs.Found.{FoundUp, found-take, numbers-from}
-use Rattle.filling.proofs.Nearby.{found-gap}
+use Rattle.filling.proofs.Nearby.{found-gap, reached-start, reached-from}
+use borrow.Author.Needs.{needs}
 use Rattle.filling.proofs.find.Statement.{statement}
 use Rattle.filling.proofs.find.Tie as tie
 
 abbrev Inv-loop : tie.InvT-loop
-Inv-loop labels n offsets entries c quads t w found₀ i₀ found i = (t ≡ length labels / 4) × ((i ≤ t) × ((i < t → belongs (meshOf [] labels []) (quadsOf quads) c (tetAt labels [] i) ≡ true) × FoundUp (λ j. belongs (meshOf [] labels []) (quadsOf quads) c (tetAt labels [] j)) i found))
+Inv-loop labels n offsets entries c quads t w m places₀ found₀ i₀ places found i = (t ≡ length labels / 4) × ((i ≤ t) × ((i < t → belongs (meshOf [] labels []) (quadsOf quads) c (tetAt labels [] i) ≡ true) × (FoundUp (λ j. belongs (meshOf [] labels []) (quadsOf quads) c (tetAt labels [] j)) i found × ((length places ≡ 8) × Reached (λ j. belongs (meshOf [] labels []) (quadsOf quads) c (tetAt labels [] j)) labels c i places))))
 
 abbrev μ-loop : tie.MeasureT-loop
-μ-loop labels n offsets entries c quads t w found₀ i₀ found i = t - i
+μ-loop labels n offsets entries c quads t w m places₀ found₀ i₀ places found i = t - i
 
 crowd-of-requires : tie.Need-crowd-of-requires Inv-loop μ-loop
 crowd-of-requires c κs = c .before .before .before .before .before .pre
 
+stamp-requires : tie.Need-stamp-requires Inv-loop μ-loop
+stamp-requires c κs = search needs
+
+no-places-requires : tie.Need-no-places-requires Inv-loop μ-loop
+no-places-requires c κs = search needs
+
+slice-aggregate-next : tie.Need-slice-aggregate-next Inv-loop μ-loop
+slice-aggregate-next c = search needs
+
 next-requires : tie.Need-next-requires Inv-loop μ-loop
-next-requires c κs = c .before .before .before .before .before .before .pre
+next-requires c κs =
+    let s = c .before .before .before .before .before .before .before .before .before .before in
+    ((s .pre, c .before .before .before .stamp .ensures), (c .before .before .before .before .crowd-of .ensures, rw (c .before .before .no-places .ensures) (reached-start _ _ _ 0 8)))
 
 loop-holds : tie.Need-loop-holds Inv-loop μ-loop
 unfolding keep
 loop-holds c =
-    let a = c .next .ensures in
-    (refl, (a .le, (a .is, found-gap (record { low = omega arith; found = record { count = refl; list = refl } }) (omega arith) a)))
+    let a = c .before .next .ensures in
+    (refl, (a .0 .le, (a .0 .is, (found-gap (record { low = omega arith; found = record { count = refl; list = refl } }) (omega arith) (a .0), (search needs, reached-from (a .1) (omega arith))))))
 
-cast-t14 : tie.Need-cast-t14 Inv-loop μ-loop
-cast-t14 c = omega arith
+cast-t21 : tie.Need-cast-t21 Inv-loop μ-loop
+cast-t21 c = omega arith
 
 push-requires : tie.Need-push-requires Inv-loop μ-loop
 push-requires c κs = omega arith
 
 add-next : tie.Need-add-next Inv-loop μ-loop
-add-next c = omega arith
+add-next c = omega (arith, c .before .before .before .before .before .before .before .before .before .before .before .before .before .before .before .pre .labelled .few)
+
+slice-aggregate-next-2 : tie.Need-slice-aggregate-next-2 Inv-loop μ-loop
+slice-aggregate-next-2 c = search needs
 
 next-requires-2 : tie.Need-next-requires-2 Inv-loop μ-loop
-next-requires-2 c κs = c .before .before .before .before .before .before .before .before .before .before .pre
+next-requires-2 c κs =
+    let s = c .before .before .before .before .before .before .before .before .before .before .before .before .before .before .before .before .before in
+    ((s .pre, c .before .before .before .before .before .before .before .before .before .before .stamp .ensures), (c .before .before .before .before .before .before .before .before .before .before .before .crowd-of .ensures, reached-from (c .before .before .before .before .loop .inv .1 .1 .1 .1 .1) (omega arith)))
 
 loop-less : tie.Need-loop-less Inv-loop μ-loop
-loop-less c = omega (arith, c .next2 .ensures .from (omega arith))
+loop-less c = omega (arith, c .before .next2 .ensures .0 .from (omega arith))
 
 loop-again : tie.Need-loop-again Inv-loop μ-loop
 loop-again c =
-    let a = c .next2 .ensures in
-    let l = c .before .before .before .loop .inv .1 .1 in
-    (refl, (a .le, (a .is, found-gap (rw (c .before .push .ensures) (found-take (l .1) (l .0 (omega arith)))) (omega arith) a)))
+    let a = c .before .next2 .ensures in
+    let l = c .before .before .before .before .before .before .loop .inv .1 .1 in
+    (refl, (a .0 .le, (a .0 .is, (found-gap (rw (c .before .before .before .before .push .ensures) (found-take (l .1 .0) (l .0 (omega arith)))) (omega arith) (a .0), (search needs, reached-from (a .1) (a .0 .from (omega arith)))))))
 
 returns : tie.Need-returns Inv-loop μ-loop
 unfolding numbersOf
 returns c =
-    let s = c .before .before .before .before .before .before .before .before .before in
+    let s = c .before .before .before .before .before .before .before .before .before .before .before .before .before .before in
     let ls = s .args .labels .now in
     let e : c .before .loop .i ≡ length ls / 4 = omega arith in
-    rw (numbers-from (meshOf [] ls []) (quadsOf (s .args .quads .now)) (s .args .c .now) (tetAt ls []) (length ls / 4) 0) (rw e at (c .before .loop .inv .1 .1 .1 .found))
+    rw (numbers-from (meshOf [] ls []) (quadsOf (s .args .quads .now)) (s .args .c .now) (tetAt ls []) (length ls / 4) 0) (rw e at (c .before .loop .inv .1 .1 .1 .0 .found))
 
 pub find-spec : {M : Type 1} → statement M
 find-spec =
@@ -68,11 +86,15 @@ find-spec =
     Inv-loop
     μ-loop
     crowd-of-requires
+    stamp-requires
+    no-places-requires
+    slice-aggregate-next
     next-requires
     loop-holds
-    cast-t14
+    cast-t21
     push-requires
     add-next
+    slice-aggregate-next-2
     next-requires-2
     loop-less
     loop-again

@@ -12,7 +12,10 @@ returns-2 : tie.Need-returns-2
 returns-2 c = sym (rw (ne-eqb _ _ (c .before .before .if1 .left), eq-eqb _ _ (c .if2 .taken)))
 
 returns-3 : tie.Need-returns-3
-returns-3 c = sym (rw (ne-eqb _ _ (c .before .before .before .if1 .left), ne-eqb _ _ (c .before .if2 .left)) (or-false _))
+returns-3 c = sym (rw (ne-eqb _ _ (c .before .before .before .before .if1 .left), ne-eqb _ _ (c .before .before .if2 .left), eq-eqb _ _ (c .if3 .taken)))
+
+returns-4 : tie.Need-returns-4
+returns-4 c = sym (rw (ne-eqb _ _ (c .before .before .before .before .before .if1 .left), ne-eqb _ _ (c .before .before .before .if2 .left), ne-eqb _ _ (c .before .if3 .left)) (or-false _))
 
 pub is-crowded-spec : {M : Type 1} → statement M
-is-crowded-spec = tie.close (tie.spec returns returns-2 returns-3)
+is-crowded-spec = tie.close (tie.spec returns returns-2 returns-3 returns-4)

@@ -1,40 +1,23 @@
 -- `filling::is_filled` meets its contract. Assumes nothing.
-use Rattle.filling.specs.Filled.{fills}
-use Rattle.base.proofs.Bools.{first-fails, second-fails, third-decides}
+use mathlib.Core.Path.{_∙_}
 use borrow.Author.Needs.{needs}
+use Rattle.filling.proofs.Sides.{noted-marks, fills-are}
 use Rattle.filling.proofs.is_filled.Statement.{statement}
 use Rattle.filling.proofs.is_filled.Tie as tie
 
-all-once-requires : tie.Need-all-once-requires
-all-once-requires c κs = search needs
+note-requires : tie.Need-note-requires
+note-requires c κs = search needs
+
+is-filled-by-requires : tie.Need-is-filled-by-requires
+is-filled-by-requires c κs = (noted-marks (c .before .before .before .note .ensures), c .before .before .before .before .before .before .before .before .before .before .before .before .pre .1 .1)
+
+same-length : tie.Need-same-length
+same-length c = search needs
 
 returns : tie.Need-returns
-unfolding fills
-returns c = first-fails (c .before .all-once .ensures) (c .if1 .taken) _ _
-
-all-covered-requires : tie.Need-all-covered-requires
-all-covered-requires c κs = search needs
-
-returns-2 : tie.Need-returns-2
-unfolding fills
-returns-2 c = second-fails (c .before .before .before .all-once .ensures) (c .before .before .if1 .left) (c .before .all-covered .ensures) (c .if2 .taken) _
-
-all-paired-requires : tie.Need-all-paired-requires
-all-paired-requires c κs = search needs
-
-returns-3 : tie.Need-returns-3
-unfolding fills
-returns-3 c =
-    third-decides (c .before .before .before .before .all-once .ensures) (c .before .before .before .if1 .left) (c .before .before .all-covered .ensures) (c .before .if2 .left)
-    (c .all-paired .ensures)
+returns c =
+    let s = c .before .before .before .before .before .before .before .before .before .before .before .before .before in
+    c .is-filled-by .ensures ∙ fills-are (c .before .before .before .before .note .ensures) (s .args .triangles .now) (s .args .quads .now) (s .args .within .now) (s .pre .1 .1)
 
 pub is-filled-spec : {M : Type 1} → statement M
-is-filled-spec =
-    tie.close
-    (tie.spec
-    all-once-requires
-    returns
-    all-covered-requires
-    returns-2
-    all-paired-requires
-    returns-3)
+is-filled-spec = tie.close (tie.spec note-requires is-filled-by-requires same-length returns)

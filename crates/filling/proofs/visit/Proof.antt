@@ -11,7 +11,7 @@ is-crowded-requires : tie.Need-is-crowded-requires
 is-crowded-requires c κs = search needs
 
 returns : tie.Need-returns
-returns c = record { is = inl (sym (c .before .is-crowded .ensures) ∙ c .if1 .taken, refl) }
+returns c = (record { is = inl (sym (c .before .is-crowded .ensures) ∙ c .if1 .taken, refl) }, c .before .before .before .before .before .before .before .pre .1)
 
 row-of-requires : tie.Need-row-of-requires
 row-of-requires c κs = search needs
@@ -32,10 +32,15 @@ part-least-in-end : tie.Need-part-least-in-end
 part-least-in-end c = search needs
 
 least-in-requires : tie.Need-least-in-requires
-least-in-requires c κs = (slice-within (c .before .before .row-of .ensures), rw (row-slice (c .before .before .row-of .ensures)) (around-rises _ _))
+least-in-requires c κs =
+    let r = c .before .before .row-of .ensures in
+    let s = c .before .before .before .before .before .before .before .before .before .before in
+    ((slice-within r, rw (row-slice r) (around-rises _ _)), (s .pre .0 .1, rw (row-slice r) (s .pre .1)))
 
 returns-2 : tie.Need-returns-2
-returns-2 c = record { is = inr (rw (row-slice (c .before .before .before .row-of .ensures)) at (c .least-in .ensures)) }
+returns-2 c =
+    let r = c .before .before .before .row-of .ensures in
+    (record { is = inr (rw (row-slice r) at (c .least-in .ensures .0)) }, rw (row-slice r) at (c .least-in .ensures .1))
 
 pub visit-spec : {M : Type 1} → statement M
 visit-spec =

@@ -43,7 +43,7 @@ returns-3 c =
     let t = tabled (s .args .corners) [] (s .args .triangles .now) (s .args .quads .now) (s .args .triples .now) in
     third-decides (c .before .before .before .before .is-tuple .ensures ∙ tuple-is (s .args .coords .now) (s .args .labels .now) (s .args .parts .now) (s .args .corners) [] (s .args .triangles .now) (s .args .quads .now) (s .args .triples .now) (s .args .c .now)) (c .before .before .before .if1 .left)
     (c .before .before .is-sound .ensures ∙ sound-is (s .args .coords .now) (s .args .labels .now) (s .args .parts .now) (s .args .corners) [] (s .args .triangles .now) (s .args .quads .now) (s .args .triples .now) (s .args .c .now)) (c .before .if2 .left)
-    (ap (λ v. eqb v 0) (c .judge-tets .ensures ∙ last-is (s .args .coords .now) (s .args .labels .now) (s .args .parts .now) (s .args .corners) [] (s .args .triangles .now) (s .args .quads .now) (s .args .triples .now) (s .args .c .now) (s .args .within .now) (s .pre .1)) ∙ last-two (isFilled m t (s .args .c .now)) (isOnePart m t (s .args .c .now)))
+    (ap (λ v. eqb v 0) (c .judge-tets .ensures ∙ last-is (s .args .coords .now) (s .args .labels .now) (s .args .parts .now) (s .args .corners) [] (s .args .triangles .now) (s .args .quads .now) (s .args .triples .now) (s .args .c .now) (s .args .within .now) (s .pre .1 .0)) ∙ last-two (isFilled m t (s .args .c .now)) (isOnePart m t (s .args .c .now)))
 
 pub is-solid-spec : {M : Type 1} → statement M
 is-solid-spec =

@@ -66,7 +66,7 @@ returns-5 : tie.Need-returns-5
 unfolding firstFailing
 returns-5 c =
     let s = c .before .before .before .before .before .before .before .before .before .before .before .before .before .before .before .before .before .before .before in
-    c .judge-tets .ensures ∙ last-is (s .args .coords .now) (s .args .labels .now) (s .args .parts .now) (s .args .corners) (s .args .edges .now) (s .args .triangles .now) (s .args .quads .now) (s .args .triples .now) (s .args .c .now) (s .args .within .now) (s .pre .1) ∙
+    c .judge-tets .ensures ∙ last-is (s .args .coords .now) (s .args .labels .now) (s .args .parts .now) (s .args .corners) (s .args .edges .now) (s .args .triangles .now) (s .args .quads .now) (s .args .triples .now) (s .args .c .now) (s .args .within .now) (s .pre .1 .0) ∙
     sym
     (rw (
       sym (c .before .before .before .before .before .before .before .before .is-tuple .ensures ∙ tuple-is (s .args .coords .now) (s .args .labels .now) (s .args .parts .now) (s .args .corners) (s .args .edges .now) (s .args .triangles .now) (s .args .quads .now) (s .args .triples .now) (s .args .c .now)) ∙ not-false _ (c .before .before .before .before .before .before .before .if1 .left),

@@ -3,12 +3,13 @@ use mathlib.Core.Path.{_≡_, refl, sym, _∙_}
 use mathlib.Core.List.{[]}
 use mathlib.Core.Logic.{⊎-elim}
 use Prim.Native.Nat.{_/_, _-_, _≤_}
-use lib.ListN.{length, length-take}
+use lib.ListN.{length, replicate, length-take}
+use lib.Seq.{length-take-le}
 use native.Mathlib.Omega.{arith}
 use Rattle.space.specs.Arrays.{tetAt, meshOf}
 use Rattle.cells.specs.Cells.{belongs}
 use Rattle.cells.specs.Rows.{quadsOf}
-use Rattle.verdict.proofs.Numbers.{Gathered, gather-start, gather-take, gather-skip, gathered-all, listed-within, last-are}
+use Rattle.verdict.proofs.Numbers.{Gathered, gather-start, gather-take, gather-skip, gathered-all, listed-within, last-are, room-is}
 use Rattle.verdict.proofs.judge_many.Statement.{statement}
 use Rattle.verdict.proofs.judge_many.Tie as tie
 
@@ -21,8 +22,8 @@ abbrev μ-loop : tie.MeasureT-loop
 loop-holds : tie.Need-loop-holds Inv-loop μ-loop
 loop-holds c = (refl, (omega arith, gather-start _))
 
-cast-t14 : tie.Need-cast-t14 Inv-loop μ-loop
-cast-t14 c = omega arith
+cast-t15 : tie.Need-cast-t15 Inv-loop μ-loop
+cast-t15 c = omega arith
 
 belongs-to-requires : tie.Need-belongs-to-requires Inv-loop μ-loop
 belongs-to-requires c κs = omega arith
@@ -60,17 +61,28 @@ array-share-prefix-list c = omega arith
 slice-aggregate-judge-list : tie.Need-slice-aggregate-judge-list Inv-loop μ-loop
 slice-aggregate-judge-list c = simp length-take (omega arith)
 
+mul-has : tie.Need-mul-has Inv-loop μ-loop
+mul-has c = omega arith
+
+array-borrow-prefix-has : tie.Need-array-borrow-prefix-has Inv-loop μ-loop
+array-borrow-prefix-has c = omega arith
+
+slice-aggregate-judge-list-2 : tie.Need-slice-aggregate-judge-list-2 Inv-loop μ-loop
+slice-aggregate-judge-list-2 c = sym (length-take-le _ _ (omega arith))
+
 judge-list-requires : tie.Need-judge-list-requires Inv-loop μ-loop
 judge-list-requires c κs =
-    let s = c .before .before .before .before .before .before .before .before .before in
-    listed-within (s .args .labels .now) (s .args .parts .now) (s .args .quads .now) (s .args .c .now)
-    (gathered-all (s .args .labels .now) (s .args .quads .now) (s .args .c .now) (c .before .before .loop .inv .1 .1) (omega arith)) (s .pre .1)
+    let s = c .before .before .before .before .before .before .before .before .before .before in (
+      listed-within (s .args .labels .now) (s .args .parts .now) (s .args .quads .now) (s .args .c .now)
+          (gathered-all (s .args .labels .now) (s .args .quads .now) (s .args .c .now) (c .before .before .before .loop .inv .1 .1) (omega arith)) (s .pre .0 .1),
+      (room-is (c .before .before .before .loop .k) (replicate 16384 0) (c .before .before .before .loop .list) (omega arith) (omega arith), s .pre .1),
+    )
 
 returns : tie.Need-returns Inv-loop μ-loop
 returns c =
-    let s = c .before .before .before .before .before .before .before .before .before .before in
-    let e = gathered-all (s .args .labels .now) (s .args .quads .now) (s .args .c .now) (c .before .before .before .loop .inv .1 .1) (omega arith) in
-    c .judge-list .ensures ∙ last-are (s .args .labels .now) (s .args .parts .now) (s .args .quads .now) (s .args .c .now) (s .args .triangles .now) (s .args .within .now) _ e
+    let s = c .before .before .before .before .before .before .before .before .before .before .before .before in
+    let e = gathered-all (s .args .labels .now) (s .args .quads .now) (s .args .c .now) (c .before .before .before .before .before .loop .inv .1 .1) (omega arith) in
+    c .before .judge-list .ensures ∙ last-are (s .args .labels .now) (s .args .parts .now) (s .args .quads .now) (s .args .c .now) (s .args .triangles .now) (s .args .within .now) _ e
 
 pub judge-many-spec : {M : Type 1} → statement M
 judge-many-spec =
@@ -79,7 +91,7 @@ judge-many-spec =
     Inv-loop
     μ-loop
     loop-holds
-    cast-t14
+    cast-t15
     belongs-to-requires
     cast-list
     mul-list
@@ -90,5 +102,8 @@ judge-many-spec =
     loop-again
     array-share-prefix-list
     slice-aggregate-judge-list
+    mul-has
+    array-borrow-prefix-has
+    slice-aggregate-judge-list-2
     judge-list-requires
     returns)
