@@ -188,13 +188,13 @@ fn closed(out: &mut [u8], done: u64, room: u64, none_remain: bool, mark: Mark) -
 
 // How many of the cells that are left go into one call.
 fn batch(room: u64, done: u64) -> usize
-    ensures { λ r. ⌜ r ≤ 1024 ⌝ }
+    ensures { λ r. ⌜ r ≤ 4096 ⌝ }
 {
     if room <= done {
         return 0;
     }
     let left = room - done;
-    if left < 1024 { left as usize } else { 1024 }
+    if left < 4096 { left as usize } else { 4096 }
 }
 
 // One call of the library, and what it gave written.
@@ -207,7 +207,7 @@ fn call(
     done: u64,
     room: u64,
 ) -> Step
-    requires { ⌜ (length (now out) ≡ 65536) × (length (now records) ≡ 35840) ⌝ }
+    requires { ⌜ (length (now out) ≡ 65536) × (length (now records) ≡ 143360) ⌝ }
 {
     let end = 35 * batch(room, done);
     let part = &mut records[..end];
@@ -217,7 +217,7 @@ fn call(
 
 // Calls until the end or the room is reached. A loop has to end, so it counts down from a number that no run uses up.
 fn list(out: &mut [u8], file: &[u8], table: &mut [u16], records: &mut [u16], from: Mark, room: u64)
-    requires { ⌜ (length (now out) ≡ 65536) × (length (now records) ≡ 35840) ⌝ }
+    requires { ⌜ (length (now out) ≡ 65536) × (length (now records) ≡ 143360) ⌝ }
 {
     let mut mark = from;
     let mut done = 0;
@@ -247,10 +247,10 @@ fn table_room() -> [u16; 25089]
     [0; 25089]
 }
 
-fn record_room() -> [u16; 35840]
-    ensures { λ r. ⌜ 35840 ≡ length r ⌝ }
+fn record_room() -> [u16; 143360]
+    ensures { λ r. ⌜ 143360 ≡ length r ⌝ }
 {
-    [0; 35840]
+    [0; 143360]
 }
 
 fn list_from(file: &[u8], from: Mark, room: u64) {
