@@ -367,7 +367,8 @@ fn sole_row(
 }
 
 // The vertices that link w and v: those but u and w that make a facet with u and w, and one with u and v.
-// None of them is left out; one that the marks merely do not exclude may be counted too.
+// None of them is left out; one that the marks merely do not exclude may be counted too. Where there are many to look through, it is said that
+// there may be several, and the vertex is w, which is none of them.
 pub fn sole(
     labels: &[u16],
     n: usize,
@@ -383,6 +384,13 @@ pub fn sole(
 {
     let y = rarest(labels, n, offsets, entries, u, w, w);
     let row = row_of(labels, n, offsets, entries, y);
+    if MANY < row.size {
+        return Linking {
+            some: true,
+            single: false,
+            vertex: w.0,
+        };
+    }
     let from = row.from;
     let end = from + row.size;
     sole_row(

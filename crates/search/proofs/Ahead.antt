@@ -277,6 +277,18 @@ module _ (zs : List ℤ) (ls ps : List ℕ) (k : ℕ) (s : List ℕ) (leaf : isL
       (ap (eqb (getD s (l .place) 0)) (sym e)
       ∙ leaf-apart zs ls ps k s leaf (l .place) (r .place) (l .inside) (r .inside) (clash (one-of (l .among)) (one-of (r .among)) f))
 
+  -- where p is the second corner, which is on neither side
+  closes-both : {a b p : ℕ} → 3 < templateOf k .corners → Sides (templateOf k) a b → 1 < a → 1 < b → p ≡ getD s 1 0 → Closes ls p (getD s 0 0) (getD s 2 0) (getD s 3 0) × Closes ls p (getD s 0 0) (getD s 1 0) (getD s 3 0)
+  closes-both {a} {b} {p} h e f g q =
+      let l = leaf-links (3 ∷ a ∷ []) 0 2 3 h (e .one) in
+      let r = leaf-links (3 ∷ b ∷ []) 0 1 3 h (e .two) in
+      (closes-by l p (differs l f), closes-by r p (differs r g))
+    where
+      differs : {a w : ℕ} (l : Linking (3 ∷ a ∷ []) 0 w 3) → 1 < a → eqb (getD s (l .place) 0) p ≡ false
+      differs l f =
+          ap (eqb (getD s (l .place) 0)) q
+          ∙ leaf-apart zs ls ps k s leaf (l .place) 1 (l .inside) (omega arith) (λ i. ⊎-elim (λ j. omega arith) (λ j. omega arith) (one-of (l .among)))
+
   -- whatever p is: where both linking corners are p, they are one corner, and so place 3
   closes-either : {a b : ℕ} → 3 < templateOf k .corners → Sides (templateOf k) a b → (a ≡ b → ⊥) → (p : ℕ) → (getD s 3 0 ≡ p) ⊎ (Closes ls p (getD s 0 0) (getD s 2 0) (getD s 3 0) ⊎ Closes ls p (getD s 0 0) (getD s 1 0) (getD s 3 0))
   closes-either {a} {b} h e z p =
@@ -300,7 +312,7 @@ module _ (zs : List ℤ) (ls ps : List ℕ) (k : ℕ) (s : List ℕ) (leaf : isL
   -- whatever is known of the aim, there is some, and the listed tuple's vertex follows by it
   pub leaf-aims : length (meshOf zs ls ps .points) ≤ 512 → (d : ℕ) → d < templateOf k .corners → 1 < d → {some both : Bool} {p : ℕ} → Aims ls s (base k + d) some both p → (some ≡ true) × Follows ls s (base k + d) p both (getD s d 0)
   leaf-aims few d h z {some} {both} {p} q =
-      (split some (λ e. e) (λ e. absurd (not-none (q .none e))), record { each = λ e. ⊎-elim no-vertex sole (q .each e); some = λ e. ⊎-elim at-three at-eleven (q .either e) })
+      (split some (λ e. e) (λ e. absurd (not-none (q .none e))), record { each = λ e. ⊎-elim no-vertex (λ f. ⊎-elim sole second f) (q .each e); some = λ e. ⊎-elim at-three at-eleven (q .either e) })
     where
       not-none : (base k + d ≡ 3) × ((y : ℕ) → LinksFirst ls s y → ⊥) → ⊥
       not-none n =
@@ -318,6 +330,13 @@ module _ (zs : List ℤ) (ls ps : List ℕ) (k : ℕ) (s : List ℕ) (leaf : isL
           let e = n .1 (getD s (l .place) 0) (l .links) in
           let i : 3 < templateOf k .corners = omega (arith, r .place) in
           rw (n .0, r .place) (closes-apart (leaf-links (3 ∷ 6 ∷ []) 0 2 3 i (r .sides .one)) l e (omega arith), closes-apart (leaf-links (3 ∷ 5 ∷ []) 0 1 3 i (r .sides .two)) l e (omega arith))
+
+      second : ((base k + d ≡ 3) ⊎ (base k + d ≡ 11)) × (p ≡ getD s 1 0) → ClosesPair ls s (base k + d) 0 p (getD s d 0) × ClosesPair ls s (base k + d) 2 p (getD s d 0)
+      second n =
+          ⊎-elim
+          (λ e. let r = row-three k d h e in rw (e, r .place) (closes-both (omega (arith, r .place)) (r .sides) (omega arith) (omega arith) (n .1)))
+          (λ e. let r = row-eleven k d h e in rw (e, r .0) (closes-both (omega (arith, r .0)) (r .1) (omega arith) (omega arith) (n .1)))
+          (n .0)
 
       at-three : base k + d ≡ 3 → (getD s d 0 ≡ p) ⊎ (ClosesPair ls s (base k + d) 0 p (getD s d 0) ⊎ ClosesPair ls s (base k + d) 2 p (getD s d 0))
       at-three n = let r = row-three k d h n in rw (n, r .place) (closes-either (omega (arith, r .place)) (r .sides) (λ e. omega arith) p)

@@ -120,7 +120,7 @@ module _ (zs : List ℤ) (ls ps : List ℕ) {ms : List ℕ} (marked : Marked ls 
     aims-there : {some both : Bool} {p : ℕ} → Aims ls t x some both p → Aims ls s x some both p
     aims-there q = record {
       none = λ e. let n = q .none e in (n .0, λ y f. n .1 y (links-there (row-three k d h (n .0) .place) y f));
-      each = λ e. ⊎-elim inl (λ n. inr (n .0, λ y f. n .1 y (links-there (row-three k d h (n .0) .place) y f))) (q .each e);
+      each = λ e. ⊎-elim inl (λ n. inr (⊎-elim (λ m. inl (m .0, λ y f. m .1 y (links-there (row-three k d h (m .0) .place) y f))) (λ m. inr (m .0, m .1 ∙ a 1 (omega arith))) n)) (q .each e);
       either = q .either;
     }
 

@@ -35,10 +35,10 @@ abbrev pub LinksFirst : List ℕ → List ℕ → ℕ → Type 0
 LinksFirst ls t y = Links ls (getD t 0 0) (getD t 1 0) (getD t 2 0) y
 
 -- what is known of the aim at row x; rows 3 and 11 are place 3 of the kinds 8 and 6
--- where there is none, nothing links the first three; where both pairs are asked for, p is no vertex, or nothing but p links the first three
+-- where there is none, nothing links the first three; where both pairs are asked for, p is no vertex, or nothing but p links the first three, or it is the second entry
 pub record Aims (ls t : List ℕ) (x : ℕ) (some both : Bool) (p : ℕ) : Type 0 where
   pub none : some ≡ false → (x ≡ 3) × ((y : ℕ) → LinksFirst ls t y → ⊥)
-  pub each : both ≡ true → (p ≡ 65535) ⊎ ((x ≡ 3) × ((y : ℕ) → LinksFirst ls t y → y ≡ p))
+  pub each : both ≡ true → (p ≡ 65535) ⊎ (((x ≡ 3) × ((y : ℕ) → LinksFirst ls t y → y ≡ p)) ⊎ (((x ≡ 3) ⊎ (x ≡ 11)) × (p ≡ getD t 1 0)))
   pub either : both ≡ false → (x ≡ 3) ⊎ (x ≡ 11)
 
 -- the tuple passes the test of the level with v at place d

@@ -595,7 +595,7 @@ struct Aim {
 }
 
 // At row 3 the face of the first three corners needs a vertex that links them: without one no cell goes on, and a sole one is a corner of that face
-// and links no other face of the place. At row 11 it is the vertex most likely to link both side faces, which only place 3 itself may.
+// and links no other face of the place; nor does the second corner, which is taken where it has too many tetrahedra. At row 11 it is the vertex most likely to link both side faces, which only place 3 itself may.
 fn aim_at(
     labels: &[u16],
     n: usize,
@@ -627,6 +627,13 @@ fn aim_at(
         Vertex(t[1]),
         Vertex(t[2]),
     );
+    if q.vertex == t[1] {
+        return Aim {
+            some: true,
+            both: true,
+            p: t[1],
+        };
+    }
     if x == 11 {
         return Aim {
             some: true,
