@@ -190,10 +190,6 @@ pub const HEX_INSIDE: [u8; 96] = [
     7,
 ];
 
-pub const HEX_ORDER: [u8; 8] = [0, 1, 3, 4, 2, 5, 7, 6];
-
-pub const HEX_PLACES: [u8; 8] = [0, 1, 4, 2, 3, 5, 7, 6];
-
 pub const HEX_LESS: [u8; 18] = [0, 1, 0, 3, 1, 3, 0, 4, 1, 4, 0, 2, 0, 5, 0, 7, 0, 6];
 
 pub const HEX_TURNS: [u8; 192] = [
@@ -426,10 +422,6 @@ pub const PRISM_TRIPLES: [u8; 24] = [
 
 pub const PRISM_INSIDE: [u8; 18] = [0, 1, 5, 0, 2, 4, 0, 4, 5, 1, 2, 3, 1, 3, 5, 2, 3, 4];
 
-pub const PRISM_ORDER: [u8; 6] = [0, 1, 2, 3, 4, 5];
-
-pub const PRISM_PLACES: [u8; 6] = [0, 1, 2, 3, 4, 5];
-
 pub const PRISM_LESS: [u8; 10] = [0, 1, 0, 2, 0, 3, 0, 4, 0, 5];
 
 pub const PRISM_TURNS: [u8; 36] = [
@@ -480,10 +472,6 @@ pub const PYRAMID_QUADS: [u8; 4] = [0, 1, 2, 3];
 pub const PYRAMID_TRIPLES: [u8; 16] = [0, 1, 3, 4, 1, 2, 0, 4, 2, 3, 1, 4, 3, 0, 2, 4];
 
 pub const PYRAMID_INSIDE: [u8; 6] = [0, 2, 4, 1, 3, 4];
-
-pub const PYRAMID_ORDER: [u8; 5] = [0, 1, 2, 3, 4];
-
-pub const PYRAMID_PLACES: [u8; 5] = [0, 1, 2, 3, 4];
 
 pub const PYRAMID_LESS: [u8; 6] = [0, 1, 0, 2, 0, 3];
 
