@@ -85,7 +85,7 @@ returns c =
     result w (c .before .before .before .before .before .loop .inv) (c .before .before .before .before .seek .ensures (z .args .parts .now)) (omega arith) (omega (arith, c .before .before .before .before .before .before .before .before .corners-of .ensures .0)) (sym (c .before .is-leaf .ensures) ∙ c .if3 .taken)
 
 add-lo-2 : tie.Need-add-lo-2 Inv-loop μ-loop
-add-lo-2 c = omega arith
+add-lo-2 c = let z = c .before .before .before .before .before .before .before .before .before .before .before .before .before .before .before in omega (arith, z .pre .0 .few)
 
 loop-less-2 : tie.Need-loop-less-2 Inv-loop μ-loop
 loop-less-2 c =
