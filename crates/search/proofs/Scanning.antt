@@ -33,7 +33,7 @@ use Rattle.search.proofs.Prune.{leaf-small, flat-at, passes}
 use Rattle.search.proofs.Joined.{Joined, leaf-joined, leaf-also}
 
 -- what stands in both rows and passes stands from i on in the one and from j on in the other
-pub record Ahead (ok : ℕ → Bool) (one two : List ℕ) (lo i j : ℕ) : Type 0 where
+pub record Onward (ok : ℕ → Bool) (one two : List ℕ) (lo i j : ℕ) : Type 0 where
   pub first : (p q : ℕ) → p < length one → q < length two → getD one p 0 ≡ getD two q 0 → lo ≤ getD one p 0 → ok (getD one p 0) ≡ true → i ≤ p
   pub second : (p q : ℕ) → p < length one → q < length two → getD one p 0 ≡ getD two q 0 → lo ≤ getD one p 0 → ok (getD one p 0) ≡ true → j ≤ q
 
@@ -45,10 +45,10 @@ rises-from row z i p a b = elim (decLt i p) [
 ]
 
 module _ {ok : ℕ → Bool} {one two : List ℕ} {lo : ℕ} where
-  pub ahead-none : Ahead ok one two lo 0 0
-  ahead-none = record { first = λ p q a b e l f. omega arith; second = λ p q a b e l f. omega arith }
+  pub onward-none : Onward ok one two lo 0 0
+  onward-none = record { first = λ p q a b e l f. omega arith; second = λ p q a b e l f. omega arith }
 
-  module _ {i j : ℕ} (a : Ahead ok one two lo i j) where
+  module _ {i j : ℕ} (a : Onward ok one two lo i j) where
     pub met-none : (length one ≤ i) ⊎ (length two ≤ j) → (n : ℕ) → Met ok one two n lo n
     met-none h n = record {
       low = λ z. absurd (let o : ⊥ = omega arith in o);
@@ -57,8 +57,8 @@ module _ {ok : ℕ → Bool} {one two : List ℕ} {lo : ℕ} where
 
     module _ (rise1 : Rises one) (rise2 : Rises two) where
       -- the second row's entry is less than the first's
-      pub ahead-second : getD two j 0 < getD one i 0 → Ahead ok one two lo i (j + 1)
-      ahead-second h = record {
+      pub onward-second : getD two j 0 < getD one i 0 → Onward ok one two lo i (j + 1)
+      onward-second h = record {
         first = a .first;
         second = λ p q b c e l f. elim (decLt j q) [
           | yes g ↦ omega arith
@@ -71,8 +71,8 @@ module _ {ok : ℕ → Bool} {one two : List ℕ} {lo : ℕ} where
 
       module _ {r : Bool} (e : r ≡ (eqb (getD one i 0) (getD two j 0) && (leb lo (getD one i 0) && ok (getD one i 0)))) where
         -- it is not less, and they do not agree
-        pub ahead-first : (getD two j 0 < getD one i 0 → ⊥) → r ≡ false → Ahead ok one two lo (i + 1) j
-        ahead-first h z = record {
+        pub onward-first : (getD two j 0 < getD one i 0 → ⊥) → r ≡ false → Onward ok one two lo (i + 1) j
+        onward-first h z = record {
           first = λ p q b c k l f. elim (decLt i p) [
             | yes g ↦ omega arith
             | no g ↦

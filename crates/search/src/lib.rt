@@ -293,6 +293,11 @@ const AHEAD: [usize; 76] = [
     3,
 ];
 
+// A place looks ahead where its rows are longer than HUB, and a row longer than LONG is not gone through beside another. Both are a matter of speed alone.
+const HUB: usize = 48;
+
+const LONG: usize = 96;
+
 fn wide(x: u16) -> usize
     ensures { λ r. ⌜ (r ≡ x) × (r < 65536) ⌝ }
 {
@@ -568,10 +573,10 @@ fn fewer(r: Row, q: Row) -> Row
 fn partner(r: Row, q: Row) -> Row
     ensures { λ a. ⌜ (a ≡ r) ⊎ (a ≡ q) ⌝ }
 {
-    if 96 < r.size {
+    if LONG < r.size {
         return q;
     }
-    if 96 < q.size {
+    if LONG < q.size {
         return r;
     }
     if q.size < r.size { r } else { q }
@@ -764,7 +769,7 @@ fn hunt(
 fn is_hub(d: usize, size: usize) -> bool
     ensures { λ r. ⌜ (r ≡ true → 1 < d) ⌝ }
 {
-    if 1 < d { 48 < size } else { false }
+    if 1 < d { HUB < size } else { false }
 }
 
 // Where to go on at place d from lo: a vertex with which the tuple passes, or n. No cell is left out before it.

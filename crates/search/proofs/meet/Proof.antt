@@ -4,19 +4,19 @@ use mathlib.Core.Logic.{inl, inr}
 use lib.ListN.{length, set}
 use native.Mathlib.Omega.{arith}
 use Rattle.search.specs.Prune.{fits}
-use Rattle.search.proofs.Scanning.{Ahead, ahead-none, ahead-first, ahead-second, met-none, met-here}
+use Rattle.search.proofs.Scanning.{Onward, onward-none, onward-first, onward-second, met-none, met-here}
 use borrow.Author.Needs.{needs}
 use Rattle.search.proofs.meet.Statement.{statement}
 use Rattle.search.proofs.meet.Tie as tie
 
 abbrev Inv-loop : tie.InvT-loop
-Inv-loop coords marks n one two t x d lo i₀ j₀ i j = Ahead (λ v. fits coords marks x d (set t d v)) one two lo i j
+Inv-loop coords marks n one two t x d lo i₀ j₀ i j = Onward (λ v. fits coords marks x d (set t d v)) one two lo i j
 
 abbrev μ-loop : tie.MeasureT-loop
 μ-loop coords marks n one two t x d lo i₀ j₀ i j = (length one - i) + (length two - j)
 
 loop-holds : tie.Need-loop-holds Inv-loop μ-loop
-loop-holds c = ahead-none
+loop-holds c = onward-none
 
 returns : tie.Need-returns Inv-loop μ-loop
 returns c = met-none (c .before .before .loop .inv) (inr (omega arith)) _
@@ -42,7 +42,7 @@ loop-less c = omega arith
 loop-again : tie.Need-loop-again Inv-loop μ-loop
 loop-again c =
     let z = c .before .before .before .before .before .before .before .before .before in
-    ahead-second (c .before .before .before .before .before .loop .inv) (z .pre .1 .1 .0) (z .pre .1 .1 .1) (c .if2 .taken)
+    onward-second (c .before .before .before .before .before .loop .inv) (z .pre .1 .1 .0) (z .pre .1 .1 .1) (c .if2 .taken)
 
 agree-requires : tie.Need-agree-requires Inv-loop μ-loop
 agree-requires c κs = let z = c .before .before .before .before .before .before .before .before .before in (z .pre .0, z .pre .1 .0)
@@ -64,7 +64,7 @@ loop-less-2 c = omega arith
 loop-again-2 : tie.Need-loop-again-2 Inv-loop μ-loop
 loop-again-2 c =
     let z = c .before .before .before .before .before .before .before .before .before .before .before in
-    ahead-first (c .before .before .before .before .before .before .before .loop .inv) (z .pre .1 .1 .0) (z .pre .1 .1 .1) (c .before .agree .ensures) (λ h. omega (arith, c .before .before .if2 .left)) (c .if3 .left)
+    onward-first (c .before .before .before .before .before .before .before .loop .inv) (z .pre .1 .1 .0) (z .pre .1 .1 .1) (c .before .agree .ensures) (λ h. omega (arith, c .before .before .if2 .left)) (c .if3 .left)
 
 returns-3 : tie.Need-returns-3 Inv-loop μ-loop
 returns-3 c = met-none (c .before .loop .inv) (inl (omega arith)) _
