@@ -12,12 +12,13 @@ use Rattle.space.specs.Mesh.{Mesh}
 use Rattle.templates.specs.Tables.{Template, hexahedron, prism, pyramid, templateOf, at}
 use Rattle.portions.specs.Tuples.{Agree, LeastAfter}
 use Rattle.portions.specs.Steps.{Next}
-use Rattle.cells.specs.Full.{fullList}
+use Rattle.cells.specs.Full.{Cell, fullList}
+use Rattle.filling.specs.declared.Tets.{Tets}
 use Rattle.rule.specs.Rule.{tetRule, isLeaf, cellAt, Searched, past, within, whole}
 use Rattle.rule.proofs.Next.{found-8, found-6, found-5}
 use Rattle.records.specs.declared.Mark.{Mark}
 use Rattle.records.specs.Marks.{letters, markOf}
-use Rattle.records.specs.Records.{cellMarked, Came}
+use Rattle.records.specs.Records.{cellMarked, Stepped, Came}
 
 -- below kind 8 the search order is the letters' own
 pub own-order : (m : Mark) (b : Bool) → take (cond b prism pyramid .corners) (letters m) ≡ at (letters m) (cond b prism pyramid .order)
@@ -40,21 +41,29 @@ module _ (m : Mesh) (t : Template) {a k : ℕ} {vs : List ℕ} (is : t .kind ≡
 pub searched-as : {m : Mesh} {t : Template} {a : ℕ} {vs : List ℕ} {found said : Bool} {r : List ℕ} → found ≡ said → Searched m t a vs found r → Searched m t a vs said r
 searched-as {m} {t} {a} {vs} {r = r} e x = subst (λ b. Searched m t a vs b r) e x
 
+-- and back
+next-as : (m : Mesh) {k : List ℕ} {found said : Bool} {c : Cell} → found ≡ said → Next tetRule (fullList m) k said c → Next tetRule (fullList m) k found c
+next-as m {k} {c = c} e x = subst (λ b. Next tetRule (fullList m) k b c) (sym e) x
+
 -- ── the cell of a tuple's mark ──
 
-module _ (m : Mesh) {k : List ℕ} {found : Bool} (r : List ℕ) where
-  came-as : (t : Template) (j : List ℕ) → cellMarked m (t .kind ∷ pad 8 0 (at r (t .places))) ≡ cellAt m t r → j ≡ t .kind ∷ pad 8 0 (at r (t .places)) → Next tetRule (fullList m) k found (cellAt m t r) → Came m k found j
+module _ (m : Mesh) {a : ℕ} {vs j : List ℕ} {found : Bool} {f : Tets} where
+  came-as : (t : Template) (x : Stepped m t (a ∷ vs) found j f) → cellMarked m (t .kind ∷ pad 8 0 (at (x .tuple) (t .places))) ≡ cellAt m t (x .tuple) → Next tetRule (fullList m) (a ∷ vs) found (cellAt m t (x .tuple)) → Came m (a ∷ vs) found j f
   unfolding cellAt
-  came-as t j e q x = rw q (record { next = rw e x; marked = ap (tetRule .mark) e })
+  came-as t x e n = rw (x .marked) (record { next = rw e n; marked = ap (tetRule .mark) e; tets = λ y. rw e (x .tets y) })
 
-  pub came-8 : (j : List ℕ) → j ≡ 8 ∷ pad 8 0 (at r (hexahedron .places)) → Next tetRule (fullList m) k found (cellAt m hexahedron r) → Came m k found j
+  -- a hexahedron
+  pub came-8 : found ≡ true → Stepped m hexahedron (a ∷ vs) found j f → Came m (a ∷ vs) found j f
   unfolding cellMarked cellAt
-  came-8 j q x = came-as hexahedron j refl q x
+  came-8 y x = came-as hexahedron x refl (next-as m y (found-8 m (searched-as y (x .searched))))
 
-  pub came-6 : (j : List ℕ) → j ≡ 6 ∷ pad 8 0 (at r (prism .places)) → Next tetRule (fullList m) k found (cellAt m prism r) → Came m k found j
-  unfolding cellMarked cellAt
-  came-6 j q x = came-as prism j refl q x
+  module _ {some : Bool} {i : List ℕ} {g : Tets} (none : some ≡ false) (u : Stepped m hexahedron (a ∷ vs) some i g) where
+    -- no hexahedron, but a prism
+    pub came-6 : found ≡ true → Stepped m prism (a ∷ vs) found j f → Came m (a ∷ vs) found j f
+    unfolding cellMarked cellAt
+    came-6 y x = came-as prism x refl (next-as m y (found-6 m (searched-as none (u .searched)) (searched-as y (x .searched))))
 
-  pub came-5 : (j : List ℕ) → j ≡ 5 ∷ pad 8 0 (at r (pyramid .places)) → Next tetRule (fullList m) k found (cellAt m pyramid r) → Came m k found j
-  unfolding cellMarked cellAt
-  came-5 j q x = came-as pyramid j refl q x
+    -- neither, but maybe a pyramid
+    pub came-5 : {any : Bool} {l : List ℕ} {h : Tets} → any ≡ false → Stepped m prism (a ∷ vs) any l h → Stepped m pyramid (a ∷ vs) found j f → Came m (a ∷ vs) found j f
+    unfolding cellMarked cellAt
+    came-5 neither w x = came-as pyramid x refl (found-5 m (searched-as none (u .searched)) (searched-as neither (w .searched)) (x .searched))

@@ -4,7 +4,6 @@ use Prim.Native.Nat.{ℕ, _+_, _-_, _*_, _/_, _<_, _≤_}
 use mathlib.Core.Path.{_≡_, refl, sym, _∙_, ap, ap₂, subst}
 use mathlib.Core.Bool.{Bool, true, false}
 use mathlib.Core.List.{List, [], _∷_, _++_, append-assoc}
-use lib.IntN.{ℤ}
 use lib.ListN.{length, getD, take, replicate, length-take, length-append, length-replicate}
 use lib.Seq.{take-all}
 use native.Mathlib.Omega.{arith}
@@ -13,13 +12,11 @@ use Rattle.base.specs.Lists.{pad}
 use Rattle.base.specs.Laid.{Laid}
 use Rattle.base.proofs.Lay.{laid-as}
 use Rattle.space.specs.Mesh.{Mesh}
-use Rattle.space.specs.Arrays.{meshOf}
 use Rattle.templates.specs.Tables.{templateOf}
 use Rattle.cells.specs.Cells.{numbersOf}
 use Rattle.cells.specs.Full.{Cell, fullList}
 use Rattle.filling.specs.declared.Tets.{Tets}
 use Rattle.filling.specs.Found.{Found}
-use Rattle.verdict.proofs.Numbers.{numbers-same}
 use Rattle.portions.specs.Portions as portions
 use Rattle.portions.specs.Portions.{reply, portion, records}
 use Rattle.portions.specs.Steps.{Come}
@@ -40,23 +37,19 @@ listed {xs} x =
     let h : length ys ≤ 25 = simp length-take (omega arith) in
     ap length (x .list) ∙ length-append ys (replicate (25 - length ys) 65535) ∙ omega (arith, length-replicate {A = ℕ} (25 - length ys) 65535)
 
-module _ (zs : List ℤ) (ls ps : List ℕ) (j : List ℕ) {f : Tets} (x : Found (numbersOf (meshOf [] ls []) (templateOf (getD j 0 0)) (cornersOf j)) f) where
-  told : Found (cellMarked (meshOf zs ls ps) j .tets) f
-  unfolding cellMarked
-  told = rw (numbers-same zs ls ps (templateOf (getD j 0 0)) (templateOf (getD j 0 0)) (cornersOf j) refl) at x
+module _ (m : Mesh) (j : List ℕ) {f : Tets} (x : Found (cellMarked m j .tets) f) where
+  pub fits-few : f .count ≤ 25 → tetRule .fits (cellMarked m j) ≡ true
+  fits-few h = le-leb (length (cellMarked m j .tets)) 25 (omega (arith, x .count))
 
-  pub fits-few : f .count ≤ 25 → tetRule .fits (cellMarked (meshOf zs ls ps) j) ≡ true
-  fits-few h = le-leb (length (cellMarked (meshOf zs ls ps) j .tets)) 25 (omega (arith, told .count))
+  pub fits-many : 25 < f .count → tetRule .fits (cellMarked m j) ≡ false
+  fits-many h = lt-leb (length (cellMarked m j .tets)) 25 (omega (arith, x .count))
 
-  pub fits-many : 25 < f .count → tetRule .fits (cellMarked (meshOf zs ls ps) j) ≡ false
-  fits-many h = lt-leb (length (cellMarked (meshOf zs ls ps) j .tets)) 25 (omega (arith, told .count))
-
-  pub record-is : f .count ≤ 25 → headOf j (f .count) ++ f .list ≡ entries (cellMarked (meshOf zs ls ps) j)
+  pub record-is : f .count ≤ 25 → headOf j (f .count) ++ f .list ≡ entries (cellMarked m j)
   unfolding headOf entries cellMarked
   record-is h =
-      let xs = numbersOf (meshOf zs ls ps) (templateOf (getD j 0 0)) (cornersOf j) in
+      let xs = numbersOf m (templateOf (getD j 0 0)) (cornersOf j) in
       append-assoc (getD j 0 0 ∷ pad 8 65535 (cornersOf j)) (f .count ∷ []) (f .list)
-      ∙ ap₂ (λ n l. (getD j 0 0 ∷ pad 8 65535 (cornersOf j)) ++ (n ∷ l)) (told .count) (told .list ∙ ap (pad 25 65535) (take-all 25 xs (omega (arith, told .count))))
+      ∙ ap₂ (λ n l. (getD j 0 0 ∷ pad 8 65535 (cornersOf j)) ++ (n ∷ l)) (x .count) (x .list ∙ ap (pad 25 65535) (take-all 25 xs (omega (arith, x .count))))
 
 -- ── the loop ──
 
@@ -73,7 +66,7 @@ module _ (m : Mesh) where
     counted-as : {a : portions.Answer} → portion tetRule (fullList m) k (length old) ≡ reply a (records tetRule (x .done)) → length (portion tetRule (fullList m) k (length old) .written) ≡ tetRule .size * i
     counted-as e = ap (λ p. length (p .written)) e ∙ omega (arith, under-size tetRule (fullList m) (lawful m) (x .under), x .counted)
 
-    module _ (wide : tetRule .size ≤ length old) {found : Bool} {j′ : List ℕ} (n : Came m j found j′) where
+    module _ (wide : tetRule .size ≤ length old) {found : Bool} {j′ : List ℕ} {f : Tets} (n : Came m j found j′ f) where
       -- no cell is left
       pub written-none : (e : Mark) → markOf e ≡ tetRule .end → found ≡ false → Written m k old (Given i true e) l
       written-none e q t = record {
@@ -92,12 +85,12 @@ module _ (m : Mesh) where
 
       -- a cell is left, with room for it, that no record can hold
       pub written-long : found ≡ true → i < length old / tetRule .size → tetRule .fits (cellMarked m j′) ≡ false → Written m k old (Long i) l
-      written-long t h f = record {
-        outcome = outcome-long tetRule (fullList m) (lawful m) x wide (n .next) t h f;
+      written-long t h u = record {
+        outcome = outcome-long tetRule (fullList m) (lawful m) x wide (n .next) t h u;
         plain = refl;
-        counted = counted-as (portion-long tetRule (fullList m) (lawful m) wide (x .under) (next-is tetRule (fullList m) (lawful m) t (n .next)) (omega (arith, x .counted)) f);
+        counted = counted-as (portion-long tetRule (fullList m) (lawful m) wide (x .under) (next-is tetRule (fullList m) (lawful m) t (n .next)) (omega (arith, x .counted)) u);
       }
 
     -- one more record
-    pub come-on : {found : Bool} {j′ l′ : List ℕ} → Came m j found j′ → found ≡ true → i < length old / tetRule .size → tetRule .fits (cellMarked m j′) ≡ true → Laid (i * tetRule .size) (entries (cellMarked m j′)) l l′ → Come tetRule (fullList m) k old j′ (i + 1) l′
-    come-on {j′ = j′} {l′ = l′} n t h f d = subst (λ q. Come tetRule (fullList m) k old q (i + 1) l′) (n .marked) (come-step tetRule (fullList m) (lawful m) x (n .next) t h f d)
+    pub come-on : {found : Bool} {j′ l′ : List ℕ} {f : Tets} → Came m j found j′ f → found ≡ true → i < length old / tetRule .size → tetRule .fits (cellMarked m j′) ≡ true → Laid (i * tetRule .size) (entries (cellMarked m j′)) l l′ → Come tetRule (fullList m) k old j′ (i + 1) l′
+    come-on {j′ = j′} {l′ = l′} n t h u d = subst (λ q. Come tetRule (fullList m) k old q (i + 1) l′) (n .marked) (come-step tetRule (fullList m) (lawful m) x (n .next) t h u d)

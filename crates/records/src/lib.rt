@@ -2,22 +2,21 @@
 use filling::Tets;
 use search::Found;
 use search::next;
-use verdict::tets_of;
+use verdict::no_tets;
 ghost use mathlib.Core.Path.{_≡_};
-ghost use mathlib.Core.List.{[], _∷_, _++_};
+ghost use mathlib.Core.Bool.{true};
+ghost use mathlib.Core.List.{_∷_, _++_};
 ghost use Prim.Native.Nat.{_+_, _*_, _/_, _≤_};
 ghost use lib.ListN.{length, take};
 ghost use Rattle.base.specs.Lists.{pad};
 ghost use Rattle.base.specs.Laid.{Laid};
 ghost use Rattle.space.specs.Arrays.{meshOf};
-ghost use Rattle.around.specs.Index.{Indexed};
 ghost use Rattle.templates.specs.Tables.{templateOf, at};
-ghost use Rattle.cells.specs.Cells.{numbersOf};
 ghost use Rattle.filling.specs.Found.{Found as Numbered};
 ghost use Rattle.search.specs.Ready.{Ready};
-ghost use Rattle.rule.specs.Rule.{tetRule, Searched};
+ghost use Rattle.rule.specs.Rule.{tetRule, cellAt, Searched};
 ghost use Rattle.records.specs.Marks.{letters, markOf, Written};
-ghost use Rattle.records.specs.Records.{cornersOf, Came, headOf};
+ghost use Rattle.records.specs.Records.{Stepped, Came, headOf};
 
 // How many entries a record has.
 const SIZE: usize = 35;
@@ -35,10 +34,11 @@ pub struct Mark {
     pub h: u16,
 }
 
-// The mark of the cell that was found.
+// The mark of the cell that was found, and its tetrahedra.
 pub struct Step {
     pub found: bool,
     pub mark: Mark,
+    pub tets: Tets,
 }
 
 // A refusal by its number. `Long` is refusal 12 after this many records: the next cell has more than 25 tetrahedra.
@@ -142,12 +142,14 @@ fn search_kind(
     requires { ⌜ Ready (now coords) (now labels) n (now offsets) (now entries) (now marks) (now table) × (length (now parts) ≡ length (now labels) / 4) ⌝ }
     requires { ⌜ templateOf kind .kind ≡ kind ⌝ }
     ensures { λ r. ⌜ Searched (meshOf (now (coords .entry)) (now (labels .entry)) (now (parts .entry))) (templateOf kind) (mark .kind) (letters mark) (r .found) (r .tuple) ⌝ }
+    ensures { λ r. ⌜ (r .found ≡ true → Numbered (cellAt (meshOf (now (coords .entry)) (now (labels .entry)) (now (parts .entry))) (templateOf kind) (r .tuple) .tets) (r .tets)) ⌝ }
 {
     let k = mark.kind;
     if k < kind {
         return Found {
             found: false,
             tuple: [0; 8],
+            tets: no_tets(),
         };
     }
     if k == kind {
@@ -179,7 +181,45 @@ fn search_kind(
     )
 }
 
-// The first cell after the mark.
+// The first cell of a kind that comes after the mark: the one that the tuple makes.
+fn next_of(
+    coords: &[i64],
+    labels: &[u16],
+    parts: &[u16],
+    n: usize,
+    offsets: &[u16],
+    entries: &[u16],
+    marks: &[u8],
+    table: &[u16],
+    kind: u16,
+    mark: Mark,
+) -> Step
+    requires { ⌜ Ready (now coords) (now labels) n (now offsets) (now entries) (now marks) (now table) × (length (now parts) ≡ length (now labels) / 4) ⌝ }
+    requires { ⌜ templateOf kind .kind ≡ kind ⌝ }
+    ensures { λ r. ⌜ Stepped (meshOf (now (coords .entry)) (now (labels .entry)) (now (parts .entry))) (templateOf kind) (markOf mark) (r .found) (markOf (r .mark)) (r .tets) ⌝ }
+{
+    let x = search_kind(
+        coords,
+        labels,
+        parts,
+        n,
+        offsets,
+        entries,
+        marks,
+        table,
+        kind,
+        mark,
+    );
+    let t = x.tuple;
+    let tets = x.tets;
+    Step {
+        found: x.found,
+        mark: mark_at(kind, t),
+        tets,
+    }
+}
+
+// The first cell after the mark, of any kind.
 fn next_cell(
     coords: &[i64],
     labels: &[u16],
@@ -192,9 +232,9 @@ fn next_cell(
     mark: Mark,
 ) -> Step
     requires { ⌜ Ready (now coords) (now labels) n (now offsets) (now entries) (now marks) (now table) × (length (now parts) ≡ length (now labels) / 4) ⌝ }
-    ensures { λ r. ⌜ Came (meshOf (now (coords .entry)) (now (labels .entry)) (now (parts .entry))) (markOf mark) (r .found) (markOf (r .mark)) ⌝ }
+    ensures { λ r. ⌜ Came (meshOf (now (coords .entry)) (now (labels .entry)) (now (parts .entry))) (markOf mark) (r .found) (markOf (r .mark)) (r .tets) ⌝ }
 {
-    let x = search_kind(
+    let x = next_of(
         coords,
         labels,
         parts,
@@ -207,13 +247,9 @@ fn next_cell(
         mark,
     );
     if x.found {
-        let t = x.tuple;
-        return Step {
-            found: true,
-            mark: mark_at(8, t),
-        };
+        return x;
     }
-    let y = search_kind(
+    let y = next_of(
         coords,
         labels,
         parts,
@@ -226,13 +262,9 @@ fn next_cell(
         mark,
     );
     if y.found {
-        let t = y.tuple;
-        return Step {
-            found: true,
-            mark: mark_at(6, t),
-        };
+        return y;
     }
-    let z = search_kind(
+    next_of(
         coords,
         labels,
         parts,
@@ -243,12 +275,7 @@ fn next_cell(
         table,
         5,
         mark,
-    );
-    let t = z.tuple;
-    Step {
-        found: z.found,
-        mark: mark_at(5, t),
-    }
+    )
 }
 
 // ---- records
@@ -289,24 +316,6 @@ fn put_record(room: &mut [u16], from: usize, mark: Mark, tets: Tets)
     let list = tets.list;
     put(room, from, &head);
     put(room, from + 10, &list);
-}
-
-// The tetrahedra of the cell that has this mark.
-fn tets_at(labels: &[u16], n: usize, offsets: &[u16], entries: &[u16], mark: Mark) -> Tets
-    requires { ⌜ Indexed (now labels) n (now offsets) (now entries) ⌝ }
-    ensures { λ r. ⌜ Numbered (numbersOf (meshOf [] (now (labels .entry)) []) (templateOf (mark .kind)) (cornersOf (markOf mark))) r ⌝ }
-{
-    let corners = [
-        mark.a,
-        mark.b,
-        mark.c,
-        mark.d,
-        mark.e,
-        mark.f,
-        mark.g,
-        mark.h,
-    ];
-    tets_of(labels, n, offsets, entries, mark.kind, &corners)
 }
 
 // ---- a portion
@@ -350,7 +359,7 @@ pub fn write_cells(
             };
         }
         let c = s.mark;
-        let tets = tets_at(labels, n, offsets, entries, c);
+        let tets = s.tets;
         if 25 < tets.count {
             return Answer::Long(i);
         }

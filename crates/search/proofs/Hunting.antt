@@ -3,44 +3,52 @@
 use Prim.Native.Nat.{ℕ, _+_, _-_, _<_, _≤_}
 use mathlib.Core.Path.{_≡_, refl, sym, _∙_, subst}
 use mathlib.Core.Logic.{inl, inr, ⊎-elim}
-use mathlib.Core.Bool.{Bool, true, false, _&&_, not, true≢false}
+use mathlib.Core.Bool.{Bool, true, false, not, true≢false}
 use mathlib.Core.List.{List}
 use native.Mathlib.Omega.{arith}
 use native.Mathlib.Decide.{decLt}
-use borrow.Author.Tests.{le-leb, not-true}
-use lib.Dec.{leb}
+use borrow.Author.Tests.{not-true}
+use lib.Dec.{eqb}
 use lib.IntN.{ℤ}
 use lib.ListN.{length, getD, set}
 use Rattle.base.specs.Lists.{upTo}
 use Rattle.space.specs.Arrays.{meshOf}
 use Rattle.templates.specs.Tables.{templateOf}
-use Rattle.ahead.specs.Ahead.{Closes, Least}
+use Rattle.ahead.specs.Ahead.{Least}
 use Rattle.portions.specs.Tuples.{Agree, Skips}
 use Rattle.rule.specs.Rule.{isLeaf}
-use Rattle.search.specs.Levels.{base}
+use Rattle.levels.specs.Levels.{base, look}
 use Rattle.marks.specs.Marks.{Marked}
-use Rattle.search.specs.Prune.{fits}
-use Rattle.search.specs.Ahead.{look, ClosesPair, Follows, LinksFirst, Aims, Fit, Goes, Stops}
+use Rattle.levels.specs.Fits.{fits}
+use Rattle.search.specs.Ahead.{ClosesPair, Follows, LinksFirst, Aims, Fit, Goes, Stops}
 use Rattle.search.proofs.Prune.{passes}
-use Rattle.search.proofs.Ahead.{followsAny, follows-below, ahead-at, row-three, leaf-aims}
+use Rattle.levels.proofs.Following.{followsAny, follows-below, ahead-at, row-three}
+use Rattle.search.proofs.Ahead.{leaf-aims}
 use Rattle.search.proofs.Scanning.{set-agrees}
 
-module _ {ls t : List ℕ} {x p n lo v r : ℕ} {both : Bool} (a : Least (ClosesPair ls t x 0 p) lo n v) where
+-- one leap alone
+pub leap-first : {ls t : List ℕ} {x o p n lo v : ℕ} {both : Bool} → Least (ClosesPair ls t x 0 o p) lo n v → both ≡ true → Least (Follows ls t x o p both) lo n v
+leap-first a e = record { most = a .most; low = a .low; least = λ y f h. a .least y (f .each e .0) h }
+
+module _ {ls t : List ℕ} {x o p n lo v r : ℕ} {both : Bool} (a : Least (ClosesPair ls t x 0 o p) lo n v) where
   -- one leap after another
-  pub leap-each : both ≡ true → Least (ClosesPair ls t x 2 p) v n r → Least (Follows ls t x p both) lo n r
+  pub leap-each : both ≡ true → Least (ClosesPair ls t x 3 o p) v n r → Least (Follows ls t x o p both) lo n r
   leap-each e b = record {
     most = b .most;
     low = λ h. let g = b .low h in omega (arith, a .low (omega arith));
     least = λ y f h. b .least y (f .each e .1) (a .least y (f .each e .0) h);
   }
 
-  -- the least of two leaps and of p
-  module _ (e : both ≡ false) (b : Least (ClosesPair ls t x 2 p) lo n r) where
-    pub leap-some : {m q : ℕ} → m ≤ v → m ≤ r → (m < n → lo ≤ m) → Least (λ y. y ≡ p) lo m q → Least (Follows ls t x p both) lo n q
-    leap-some {m} {q} i j g c = record {
-      most = omega (arith, a .most, c .most);
-      low = λ h. elim (decLt q m) [ yes k ↦ c .low k | no k ↦ omega (arith, c .most, g (omega (arith, c .most))) ];
-      least = λ y f h. ⊎-elim (λ z. c .least y z h) (λ z. ⊎-elim (λ z. omega (arith, a .least y z h, c .most)) (λ z. omega (arith, b .least y z h, c .most)) z) (f .some e);
+  -- the least of two leaps and of p and o
+  module _ (e : both ≡ false) (b : Least (ClosesPair ls t x 3 o p) lo n r) where
+    pub leap-some : {m q y : ℕ} → m ≤ v → m ≤ r → (m < n → lo ≤ m) → Least (λ y. y ≡ p) lo m q → Least (λ y. y ≡ o) lo q y → Least (Follows ls t x o p both) lo n y
+    leap-some {m} {q} {y} i j g c d = record {
+      most = omega (arith, a .most, c .most, d .most);
+      low = λ h. elim (decLt y q) [
+        | yes k ↦ d .low k
+        | no k ↦ elim (decLt q m) [ yes z ↦ omega (arith, k, c .low z) | no z ↦ omega (arith, k, z, c .most, g (omega (arith, k, z, c .most))) ]
+      ];
+      least = λ w f h. ⊎-elim (λ z. ⊎-elim (λ z. d .least w z h) (λ z. omega (arith, c .least w z h, d .most)) z) (λ z. ⊎-elim (λ z. omega (arith, a .least w z h, c .most, d .most)) (λ z. omega (arith, b .least w z h, c .most, d .most)) z) (f .some e);
     }
 
 -- ── the hunt ──
@@ -89,27 +97,27 @@ hunt-less {asked} {n} {v} {r} b h l = elim (decLt r n) [ yes i ↦ omega (arith,
 -- ── one vertex ──
 
 module _ (zs : List ℤ) (ms : List ℕ) (x d : ℕ) (t : List ℕ) where
-  pub stops-fit : {n v : ℕ} {r : Bool} → r ≡ (leb 0 v && fits zs ms x d (set t d v)) → Stops (Fit zs ms x d t) n v r
-  stops-fit {n} {v} {r} e = record { none = λ f h g. true≢false (sym (e ∙ rw (le-leb 0 v (omega arith), g)) ∙ f) }
+  pub stops-fit : {n v : ℕ} {r : Bool} → r ≡ fits zs ms x d (set t d v) → Stops (Fit zs ms x d t) n v r
+  stops-fit {n} {v} {r} e = record { none = λ f h g. true≢false (sym (e ∙ g) ∙ f) }
 
   pub stops-goes : {ls : List ℕ} {n v : ℕ} {r : Bool} → Stops (Fit zs ms x d t) n v r → Stops (Goes zs ls ms x d t) n v r
   stops-goes s = record { none = λ f h g. s .none f h (g .fit) }
 
 module _ {zs : List ℤ} {ls ms : List ℕ} {x d : ℕ} {t : List ℕ} where
-  module _ {some both : Bool} {p : ℕ} (q : Aims ls t x some both p) where
-    pub goes-follows : (v : ℕ) → Goes zs ls ms x d t v → Follows ls t x p both v
-    goes-follows v g = g .follows some both p q .1
+  module _ {some both : Bool} {o p : ℕ} (q : Aims ls t x some both o p) where
+    pub goes-follows : (v : ℕ) → Goes zs ls ms x d t v → Follows ls t x o p both v
+    goes-follows v g = g .follows some both o p q .1
 
     pub hunt-none : {lo n : ℕ} → not some ≡ true → Least (Goes zs ls ms x d t) lo n n
     hunt-none e = record {
       most = omega arith;
       low = λ g. absurd (let z : ⊥ = omega arith in z);
-      least = λ v g h. absurd (true≢false (sym (g .follows some both p q .0) ∙ not-true some e));
+      least = λ v g h. absurd (true≢false (sym (g .follows some both o p q .0) ∙ not-true some e));
     }
 
 -- ── a listed tuple goes on ──
 
-module _ (zs : List ℤ) (ls ps : List ℕ) {ms : List ℕ} (marked : Marked ls ms) (few : length (meshOf zs ls ps .points) ≤ 512) (k : ℕ) (t : List ℕ) (d : ℕ) (h : d < templateOf k .corners) (l : d < length t) (z : 1 < d) where
+module _ (zs : List ℤ) (ls ps : List ℕ) {ms : List ℕ} (marked : Marked ls ms) (few : length (meshOf zs ls ps .points) ≤ 512) (k : ℕ) (t : List ℕ) (d : ℕ) (h : d < templateOf k .corners) (l : d < length t) (z : eqb (look (base k + d) 0) (look (base k + d) 1) ≡ false) where
   abbrev x : ℕ
   x = base k + d
 
@@ -117,30 +125,30 @@ module _ (zs : List ℤ) (ls ps : List ℕ) {ms : List ℕ} (marked : Marked ls 
     links-there : d ≡ 3 → (y : ℕ) → LinksFirst ls s y → LinksFirst ls t y
     links-there e y f = rw (a 0 (omega arith), a 1 (omega arith), a 2 (omega arith)) f
 
-    aims-there : {some both : Bool} {p : ℕ} → Aims ls t x some both p → Aims ls s x some both p
+    aims-there : {some both : Bool} {o p : ℕ} → Aims ls t x some both o p → Aims ls s x some both o p
     aims-there q = record {
       none = λ e. let n = q .none e in (n .0, λ y f. n .1 y (links-there (row-three k d h (n .0) .place) y f));
-      each = λ e. ⊎-elim inl (λ n. inr (⊎-elim (λ m. inl (m .0, λ y f. m .1 y (links-there (row-three k d h (m .0) .place) y f))) (λ m. inr (m .0, m .1 ∙ a 1 (omega arith))) n)) (q .each e);
-      either = q .either;
+      each = λ e. let f = q .each e in (f .0, ⊎-elim inl (λ n. inr (⊎-elim inl (λ m. inr (m .0, λ y f. m .1 y (links-there (row-three k d h (m .0) .place) y f))) n)) (f .1));
+      either = λ e. let f = q .either e in (f .0, ⊎-elim inl (λ m. inr (m .0, λ y g. m .1 y (links-there (row-three k d h (m .0) .place) y g))) (f .1));
     }
 
-    closes-here : (u w : ℕ) {p v : ℕ} → followsAny (templateOf k) u w d ≡ true → Closes ls p (getD s u 0) (getD s w 0) v → Closes ls p (getD t u 0) (getD t w 0) v
-    closes-here u w e f =
-        let b = follows-below (templateOf k) (upTo (templateOf k .corners)) u w d e in
-        rw (a u (b .0), a w (b .1)) f
+    closes-here : (i : ℕ) {o p v : ℕ} → followsAny (templateOf k) x i d ≡ true → ClosesPair ls s x i o p v → ClosesPair ls t x i o p v
+    closes-here i e f =
+        let b = follows-below (templateOf k) (upTo (templateOf k .corners)) (look x i) (look x (i + 1)) (look x (i + 2)) d e in
+        rw (a 0 (omega (arith, b .1)), a (look x i) (b .0 .0), a (look x (i + 1)) (b .0 .1), a (look x (i + 2)) (b .1)) f
 
-    follows-here : {p v : ℕ} {both : Bool} → Follows ls s x p both v → Follows ls t x p both v
+    follows-here : {o p v : ℕ} {both : Bool} → Follows ls s x o p both v → Follows ls t x o p both v
     follows-here q =
         let f = ahead-at k d h z in
         record {
-          each = λ e. let c = q .each e in (closes-here (look x 0) (look x 1) (f .0) (c .0), closes-here (look x 2) (look x 3) (f .1) (c .1));
-          some = λ e. ⊎-elim inl (λ c. inr (⊎-elim (λ i. inl (closes-here (look x 0) (look x 1) (f .0) i)) (λ i. inr (closes-here (look x 2) (look x 3) (f .1) i)) c)) (q .some e);
+          each = λ e. let c = q .each e in (closes-here 0 (f .0) (c .0), closes-here 3 (f .1) (c .1));
+          some = λ e. ⊎-elim inl (λ c. inr (⊎-elim (λ i. inl (closes-here 0 (f .0) i)) (λ i. inr (closes-here 3 (f .1) i)) c)) (q .some e);
         }
 
     goes : Goes zs ls ms (base k + d) d t (getD s d 0)
     goes = record {
       fit = passes zs ls ps k s leaf d h (set t d (getD s d 0)) (set-agrees t d l s a (getD s d 0) refl) marked;
-      follows = λ some both p q. let r = leaf-aims zs ls ps k s leaf few d h z (aims-there q) in (r .0, follows-here (r .1));
+      follows = λ some both o p q. let r = leaf-aims zs ls ps k s leaf few d h z (aims-there q) in (r .0, follows-here (r .1));
     }
 
   pub hunt-skips : {n lo r : ℕ} → Least (Goes zs ls ms (base k + d) d t) lo n r → Skips (isLeaf (meshOf zs ls ps) (templateOf k)) t d n lo r

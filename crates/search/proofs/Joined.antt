@@ -20,8 +20,8 @@ use Rattle.cells.specs.Cells.{hasEdges}
 use Rattle.cells.specs.Full.{allowed}
 use Rattle.portions.specs.Tuples.{front}
 use Rattle.rule.specs.Rule.{isLeaf}
-use Rattle.search.specs.Levels.{base, joined, also}
-use Rattle.search.proofs.Levels.{isRow, joins, Right, right-at, row-same}
+use Rattle.levels.specs.Levels.{base}
+use Rattle.levels.proofs.Right.{isRow, joins, joinedBy, Right, right-at, row-same}
 use Rattle.search.proofs.Prune.{together-bare, leaf-edges, leaf-allowed}
 
 together-swap : (m : Mesh) (u v : ℕ) → together m (u ∷ v ∷ []) ≡ together m (v ∷ u ∷ [])
@@ -102,11 +102,8 @@ module _ (zs : List ℤ) (ls ps : List ℕ) (k : ℕ) (s : List ℕ) (leaf : isL
     }
 
   module _ (z : d ≡ 0 → ⊥) where
-    both : (joins t (getD joined (base k + d) 0) d && joins t (getD also (base k + d) 0) d) ≡ true
-    both = or-either (eqb d 0) (joins t (getD joined (base k + d) 0) d && joins t (getD also (base k + d) 0) d) (right-at k d h .ofJoined) (λ e. absurd (true≢false (sym e ∙ ne-eqb d 0 z))) (λ e. e)
-
-    pub leaf-joined : Joined ls s (getD joined (base k + d) 0) d
-    leaf-joined = joins-leaf (getD joined (base k + d) 0) (both-left (joins t (getD joined (base k + d) 0) d) _ both)
-
-    pub leaf-also : Joined ls s (getD also (base k + d) 0) d
-    leaf-also = joins-leaf (getD also (base k + d) 0) (both-right (joins t (getD joined (base k + d) 0) d) _ both)
+    pub leaf-joined : {l : List ℕ} → List·Memᴰ l joinedBy → Joined ls s (getD l (base k + d) 0) d
+    leaf-joined {l} i =
+        let f : List ℕ → Bool = λ l. joins t (getD l (base k + d) 0) d in
+        let e : all f joinedBy ≡ true = or-either (eqb d 0) (all f joinedBy) (right-at k d h .ofJoined) (λ e. absurd (true≢false (sym e ∙ ne-eqb d 0 z))) (λ e. e) in
+        joins-leaf (getD l (base k + d) 0) (all-at f joinedBy e i)

@@ -10,8 +10,8 @@ use lib.ListN.{length, getD, take}
 use Rattle.base.specs.Lists.{all, upTo}
 use Rattle.templates.specs.Tables.{hexahedron, prism, pyramid, templateOf, at}
 use Rattle.templates.specs.Least.{rises, risesAt, isLeast}
-use Rattle.search.specs.Levels.{base, lesser}
-use Rattle.search.proofs.Prune.{take-front}
+use Rattle.levels.specs.Levels.{base, lesser}
+use Rattle.levels.proofs.Fresh.{take-front}
 
 -- each of the first k vertices is above those that it must be above
 abbrev pub aboveAll : List ℕ → ℕ → ℕ → Bool

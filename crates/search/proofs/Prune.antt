@@ -25,9 +25,10 @@ use Rattle.marks.specs.Marks.{noted, Marked, splitAt, notedFacet, notedSplit, f
 use Rattle.portions.specs.Tuples.{front, Agree}
 use Rattle.rule.specs.Rule.{goesOn, isLeaf}
 use Rattle.rule.proofs.OneKind.{Flat, flat-hexahedron, flat-prism, flat-pyramid, leaf-goes}
-use Rattle.search.specs.Levels.{base, triangles, trianglesAt, quads, quadsAt, triples, triplesAt, lesser, joined, part, levelOf}
-use Rattle.search.specs.Prune.{comesAfter, fits}
-use Rattle.search.proofs.Levels.{isRow, Right, right-at, run-same, at-row, row-sizes, vertex-same, row-same, rows-pass}
+use Rattle.levels.specs.Levels.{base, trianglesAt, quadsAt, triplesAt, lesser, joined, part, levelOf, levels}
+use Rattle.levels.specs.Fits.{comesAfter, fits}
+use Rattle.levels.proofs.Fresh.{take-run}
+use Rattle.levels.proofs.Right.{isRow, Right, right-at, run-same, at-row, row-sizes, vertex-same, row-same, rows-pass}
 
 -- ── least form, place by place ──
 
@@ -42,28 +43,6 @@ module _ (n : ℕ) where
   goes-at (p ∷ ps) s (v ∷ u) e (suc d) h =
       let r = goes-at ps (s ++ (v ∷ [])) u (both-right (allowed p s v) _ (both-right (ltb v n) _ e)) d (omega arith) in
       (r .0, ap (λ l. allowed (getD ps d (place [] [])) l (getD u d 0)) (sym (append-assoc s (v ∷ []) (take d u))) ∙ r .1)
-
-take-run : (f : ℕ → ℕ) (i k d : ℕ) → d ≤ k → take d (map f (from i k)) ≡ map f (from i d)
-take-run f i k zero h = refl
-take-run f i zero (suc d) h = absurd (omega arith)
-take-run f i (suc k) (suc d) h = ap (λ l. f i ∷ l) (take-run f (suc i) k d (omega arith))
-
--- ── the test of a new vertex, as the code makes it ──
-
-pub take-front : (d : ℕ) (s : List ℕ) → d ≤ length s → take d s ≡ front d s
-take-front d s h = ap (take d) (sym (listed 0 s)) ∙ take-run (λ i. getD s i 0) 0 (length s) d h
-
-module _ (x d : ℕ) (s : List ℕ) (h : d ≤ length s) {r : Bool} (e : r ≡ isIn (getD s d 0) (take d s)) where
-  found : r ≡ isIn (getD s d 0) (front d s)
-  found = e ∙ ap (isIn (getD s d 0)) (take-front d s h)
-
-  pub comes-not : r ≡ true → false ≡ comesAfter x d s
-  unfolding comesAfter
-  comes-not t = rw (sym found ∙ t)
-
-  pub comes-new : {q : Bool} → r ≡ false → q ≡ all (λ k. ltb (getD s k 0) (getD s d 0)) (upTo (getD lesser x 0)) → q ≡ comesAfter x d s
-  unfolding comesAfter
-  comes-new {q} t a = a ∙ rw (sym found ∙ t)
 
 pub flat-at : (k : ℕ) → Flat (templateOf k)
 flat-at k = go (eqb k 8) (eqb k 6)
@@ -180,26 +159,26 @@ module _ (zs : List ℤ) (ls ps : List ℕ) (k : ℕ) (s : List ℕ) (leaf : isL
       sound-here : isSound (meshOf zs [] []) (levelOf (base k + d)) u ≡ true
       unfolding isSound boxAt
       sound-here =
-          rows-pass (λ q. isAbove0 (boxAt m (at c q))) (λ r. isAbove0 (boxAt (meshOf zs [] []) (at u r))) 4 t d (fours (part triples triplesAt (base k + d))) (t .triples) (right .ofTriples) sound
+          rows-pass (λ q. isAbove0 (boxAt m (at c q))) (λ r. isAbove0 (boxAt (meshOf zs [] []) (at u r))) 4 t d (fours (part levels triplesAt (base k + d))) (t .triples) (right .ofTriples) sound
           (λ r q e f. sym (same-box (at u r)) ∙ ap (λ vs. isAbove0 (boxAt m vs)) (row-same 4 t d r q u s e g) ∙ f)
         where
           same-box : (vs : List ℕ) → isAbove0 (boxAt (meshOf zs ls ps) vs) ≡ isAbove0 (boxAt (meshOf zs [] []) vs)
           same-box vs = refl
 
       module _ {ms : List ℕ} (marked : Marked ls ms) where
-        facets : all (λ f. notedFacet ms (at u f)) (threes (part triangles trianglesAt (base k + d))) ≡ true
+        facets : all (λ f. notedFacet ms (at u f)) (threes (part levels trianglesAt (base k + d))) ≡ true
         unfolding hasFaces isFacet
         facets =
-            rows-pass (isFacet m t c) (λ f. notedFacet ms (at u f)) 3 t d (threes (part triangles trianglesAt (base k + d))) (t .triangles) (right .ofTriangles) (both-left (all (isFacet m t c) (t .triangles)) _ faces)
+            rows-pass (isFacet m t c) (λ f. notedFacet ms (at u f)) 3 t d (threes (part levels trianglesAt (base k + d))) (t .triangles) (right .ofTriangles) (both-left (all (isFacet m t c) (t .triangles)) _ faces)
             (λ r q e f.
             let o = at-row u r 3 (row-sizes 3 t d r q e .0) in
             ap (notedFacet ms) o
             ∙ marked .facets (getD u (getD r 0 0) 0) (getD u (getD r 1 0) 0) (getD u (getD r 2 0) 0) (ap (together (meshOf [] ls [])) (sym o) ∙ sym (together-bare zs ls ps (at u r)) ∙ ap (together m) (row-same 3 t d r q u s e g) ∙ f))
 
-        splits : all (λ q. notedSplit ms (at u q)) (fours (part quads quadsAt (base k + d))) ≡ true
+        splits : all (λ q. notedSplit ms (at u q)) (fours (part levels quadsAt (base k + d))) ≡ true
         unfolding hasFaces isSplit isFacet first second
         splits =
-            rows-pass (isSplit m t c) (λ q. notedSplit ms (at u q)) 4 t d (fours (part quads quadsAt (base k + d))) (t .quads) (right .ofQuads) (both-right (all (isFacet m t c) (t .triangles)) _ faces)
+            rows-pass (isSplit m t c) (λ q. notedSplit ms (at u q)) 4 t d (fours (part levels quadsAt (base k + d))) (t .quads) (right .ofQuads) (both-right (all (isFacet m t c) (t .triangles)) _ faces)
             (λ r q e f.
             ap (notedSplit ms) (at-row u r 4 (row-sizes 4 t d r q e .0))
             ∙ split-noted marked (getD u (getD r 0 0) 0) (getD u (getD r 1 0) 0) (getD u (getD r 2 0) 0) (getD u (getD r 3 0) 0) (same-split r q (vertex-same 4 t d r q u s e g) ∙ f))

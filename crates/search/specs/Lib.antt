@@ -1,4 +1,2 @@
-pub mod Levels
-pub mod Prune
 pub mod Ready
 pub mod Ahead

@@ -15,6 +15,7 @@ use Rattle.neighbours.specs.declared.Row.{Row}
 use Rattle.neighbours.specs.Reading.{Tabled}
 use Rattle.portions.specs.Tuples.{Agree}
 use Rattle.rule.specs.Rule.{isLeaf}
+use Rattle.levels.specs.Levels.{lesser}
 
 -- the mesh of n vertices in working arrays, its index, the marks of its facets and its neighbour table
 pub record Ready (zs : List ℤ) (ls : List ℕ) (n : ℕ) (os es ms table : List ℕ) : Type 0 where
@@ -25,15 +26,20 @@ pub record Ready (zs : List ℤ) (ls : List ℕ) (n : ℕ) (os es ms table : Lis
   pub marked : Marked ls ms
   pub tabled : Tabled (meshOf [] ls []) n table
 
--- a table's part for row x lies within it
-pub record Cut (rows starts : List ℕ) (x : ℕ) : Type 0 where
-  pub there : x + 1 < length starts
-  pub rising : getD starts x 0 ≤ getD starts (x + 1) 0
-  pub within : getD starts (x + 1) 0 ≤ length rows
-
 -- the entries of a row rise
 abbrev pub Rises : List ℕ → Type 0
 Rises row = (i j : ℕ) → i < j → j < length row → getD row i 0 < getD row j 0
+
+-- r is where the entries from lo on begin
+pub record Entered (row : List ℕ) (lo r : ℕ) : Type 0 where
+  pub most : r ≤ length row
+  pub before : (i : ℕ) → i < r → getD row i 0 < lo
+  pub after : (i : ℕ) → r ≤ i → i < length row → lo ≤ getD row i 0
+
+-- r is lo, or it is above lo and the first number above the last of those that the place of row x must be above
+pub record Raised (t : List ℕ) (x lo r : ℕ) : Type 0 where
+  pub low : lo ≤ r
+  pub from : (r ≡ lo) ⊎ ((0 < getD lesser x 0) × (r ≡ getD t (getD lesser x 0 - 1) 0 + 1))
 
 -- the entries of a row of the table; it lies within the table and rises
 abbrev pub entriesOf : List ℕ → Row → List ℕ

@@ -1,21 +1,35 @@
 // The search for the next cell of a kind: the least tuple after a tuple that is a cell in least form, by an odometer over one tuple with a level.
 // A tuple is kept in search order; x is the row of a place in the tables of the levels.
+use ahead::Bar;
+use ahead::Linking;
 use ahead::beyond;
+use ahead::fewer;
+use ahead::fuller;
+use ahead::fullest;
 use ahead::lower;
 use ahead::sole;
-use cells::is_sound;
-use marks::faces_noted;
+use filling::Tets;
+use levels::also_of;
+use levels::is_above;
+use levels::joined_of;
+use levels::lesser_of;
+use levels::look_of;
+use levels::tables;
+use levels::third_of;
+use levels::tries;
 use neighbours::Row;
 use neighbours::row_of;
 use space::Vertex;
-use templates::is_in;
+use verdict::Verdict;
 use verdict::is_cell;
+use verdict::no;
+use verdict::no_tets;
 ghost use mathlib.Core.Path.{_≡_};
 ghost use mathlib.Core.Logic.{_⊎_};
-ghost use mathlib.Core.Bool.{true, _&&_};
+ghost use mathlib.Core.Bool.{true, false, _&&_};
 ghost use mathlib.Core.List.{List, []};
 ghost use Prim.Native.Nat.{ℕ, _+_, _/_, _<_, _≤_};
-ghost use lib.Dec.{eqb, leb, ltb};
+ghost use lib.Dec.{eqb, ltb};
 ghost use lib.ListN.{length, getD, set, take};
 ghost use Rattle.base.specs.Lists.{all, upTo};
 ghost use Rattle.space.specs.Arrays.{meshOf, Close};
@@ -25,276 +39,26 @@ ghost use Rattle.templates.specs.Least.{isLeast};
 ghost use Rattle.cells.specs.Cells.{isSound};
 ghost use Rattle.marks.specs.Marks.{Marked, facesNoted};
 ghost use Rattle.cells.specs.Rows.{tabled};
+ghost use Rattle.filling.specs.Found.{Found as Numbered};
 ghost use Rattle.verdict.specs.Judged.{Arrays};
+ghost use Rattle.neighbours.specs.Reading.{Tabled};
 ghost use Rattle.portions.specs.Tuples.{Skips, LeastAfter};
-ghost use Rattle.rule.specs.Rule.{isLeaf};
-ghost use Rattle.ahead.specs.Ahead.{Least};
-ghost use Rattle.search.specs.Levels.{base, lesser, joined, also, part, levelOf};
-ghost use Rattle.search.specs.Prune.{comesAfter, fits};
-ghost use Rattle.search.specs.Ready.{Ready, Cut, Rises, entriesOf, Served, Met, Begins};
-ghost use Rattle.search.specs.Ahead.{look, ClosesPair, Follows, Aims, Fit, Goes, Stops};
+ghost use Rattle.rule.specs.Rule.{isLeaf, cellAt};
+ghost use Rattle.ahead.specs.Ahead.{Lent, Only, Least};
+ghost use Rattle.levels.specs.Levels.{base, lesser, look, levels};
+ghost use Rattle.levels.specs.Fits.{fits};
+ghost use Rattle.search.specs.Ready.{Ready, Rises, Entered, Raised, entriesOf, Served, Met, Begins};
+ghost use Rattle.search.specs.Ahead.{floorOf, ClosesPair, Follows, LinksFirst, Aims, Fit, Goes, Stops};
 
-// The tuple that was found, in search order.
+// The tuple that was found, in search order, and the tetrahedra of its cell.
 pub struct Found {
     pub found: bool,
     pub tuple: [u16; 8],
+    pub tets: Tets,
 }
 
-const TRIANGLES: [u8; 18] = [0, 1, 2, 3, 4, 5, 0, 1, 4, 1, 2, 4, 2, 3, 4, 0, 3, 4];
-
-const TRIANGLES_AT: [u8; 20] = [0, 0, 0, 0, 0, 0, 0, 0, 0, 0, 0, 3, 3, 3, 6, 6, 6, 6, 6, 18];
-
-const QUADS: [u8; 40] = [
-    0,
-    1,
-    4,
-    2,
-    0,
-    1,
-    5,
-    3,
-    0,
-    2,
-    6,
-    3,
-    3,
-    5,
-    7,
-    6,
-    2,
-    4,
-    7,
-    6,
-    1,
-    4,
-    7,
-    5,
-    0,
-    1,
-    4,
-    3,
-    4,
-    5,
-    2,
-    1,
-    0,
-    2,
-    5,
-    3,
-    0,
-    1,
-    2,
-    3,
-];
-
-const QUADS_AT: [u8; 20] = [
-    0,
-    0,
-    0,
-    0,
-    0,
-    4,
-    8,
-    12,
-    24,
-    24,
-    24,
-    24,
-    24,
-    28,
-    36,
-    36,
-    36,
-    36,
-    40,
-    40,
-];
-
-const TRIPLES: [u8; 72] = [
-    0,
-    1,
-    2,
-    3,
-    1,
-    4,
-    0,
-    5,
-    2,
-    0,
-    4,
-    6,
-    3,
-    6,
-    5,
-    0,
-    4,
-    2,
-    1,
-    7,
-    5,
-    3,
-    7,
-    1,
-    7,
-    5,
-    6,
-    4,
-    6,
-    7,
-    3,
-    2,
-    0,
-    1,
-    2,
-    3,
-    1,
-    2,
-    0,
-    4,
-    2,
-    0,
-    1,
-    5,
-    3,
-    5,
-    4,
-    0,
-    4,
-    3,
-    5,
-    1,
-    5,
-    4,
-    3,
-    2,
-    0,
-    1,
-    3,
-    4,
-    1,
-    2,
-    0,
-    4,
-    2,
-    3,
-    1,
-    4,
-    3,
-    0,
-    2,
-    4,
-];
-
-const TRIPLES_AT: [u8; 20] = [
-    0,
-    0,
-    0,
-    0,
-    4,
-    4,
-    8,
-    16,
-    32,
-    32,
-    32,
-    32,
-    36,
-    40,
-    56,
-    56,
-    56,
-    56,
-    56,
-    72,
-];
-
-const LESSER: [usize; 19] = [0, 1, 2, 2, 1, 1, 1, 1, 0, 1, 1, 1, 1, 1, 0, 1, 1, 1, 0];
-
-const JOINED: [usize; 19] = [0, 0, 0, 0, 1, 1, 2, 4, 0, 0, 0, 0, 1, 2, 0, 0, 1, 0, 0];
-
-const ALSO: [usize; 19] = [0, 0, 0, 0, 2, 3, 3, 5, 0, 0, 1, 0, 3, 3, 0, 0, 1, 2, 1];
-
-const AHEAD: [usize; 76] = [
-    0,
-    0,
-    0,
-    0,
-    0,
-    0,
-    0,
-    0,
-    0,
-    1,
-    0,
-    1,
-    0,
-    2,
-    0,
-    1,
-    2,
-    0,
-    1,
-    0,
-    1,
-    4,
-    3,
-    0,
-    2,
-    4,
-    3,
-    5,
-    4,
-    1,
-    5,
-    3,
-    0,
-    0,
-    0,
-    0,
-    0,
-    0,
-    0,
-    0,
-    1,
-    0,
-    0,
-    1,
-    0,
-    2,
-    0,
-    1,
-    1,
-    2,
-    3,
-    0,
-    2,
-    1,
-    3,
-    4,
-    0,
-    0,
-    0,
-    0,
-    0,
-    0,
-    0,
-    0,
-    1,
-    0,
-    1,
-    0,
-    2,
-    1,
-    0,
-    1,
-    1,
-    0,
-    2,
-    3,
-];
-
 // A place looks ahead where its rows are longer than HUB, and a row longer than LONG is not gone through beside another. Both are a matter of speed alone.
-const HUB: usize = 48;
+const HUB: usize = 24;
 
 const LONG: usize = 96;
 
@@ -302,19 +66,6 @@ fn wide(x: u16) -> usize
     ensures { λ r. ⌜ (r ≡ x) × (r < 65536) ⌝ }
 {
     x as usize
-}
-
-fn small(x: u8) -> usize
-    ensures { λ r. ⌜ r ≡ x ⌝ }
-{
-    x as usize
-}
-
-fn start_of(starts: &[u8], x: usize) -> usize
-    requires { ⌜ x < length (now starts) ⌝ }
-    ensures { λ r. ⌜ r ≡ getD (now (starts .entry)) x 0 ⌝ }
-{
-    small(starts[x])
 }
 
 fn corners_of(kind: u16) -> usize
@@ -336,151 +87,51 @@ fn base_of(kind: u16) -> usize
     if kind == 6 { 8 } else { 14 }
 }
 
-// ---- the test of a level
-
-fn lesser_of(x: usize) -> usize
-    requires { ⌜ x < 19 ⌝ }
-    ensures { λ r. ⌜ (r ≡ getD lesser x 0) × (r ≤ 2) ⌝ }
-{
-    LESSER[x]
-}
-
-// The first entries, as many as asked, are below v.
-fn is_above(s: &[u16], count: usize, v: Vertex) -> bool
-    requires { ⌜ count ≤ length (now s) ⌝ }
-    ensures { λ r. ⌜ r ≡ all (λ k. ltb (getD (now (s .entry)) k 0) (v .0)) (upTo count) ⌝ }
-{
-    let y = v.0;
-    let mut k = 0;
-    while k < count {
-        if y <= s[k] {
-            return false;
-        }
-        k += 1;
-    }
-    true
-}
-
-// The vertex at place d is new, and above those that it must be above.
-fn comes_after(s: &[u16], x: usize, d: usize) -> bool
-    requires { ⌜ (x < 19) × ((d < length (now s)) × (2 ≤ length (now s))) ⌝ }
-    ensures { λ r. ⌜ r ≡ comesAfter x d (now (s .entry)) ⌝ }
-{
-    let v = s[d];
-    if is_in(v, &s[..d]) {
-        return false;
-    }
-    is_above(s, lesser_of(x), Vertex(v))
-}
-
-// The boxes of a part of the corner triples are above 0.
-fn sound_part(coords: &[i64], s: &[u16], rows: &[u8], starts: &[u8], x: usize) -> bool
-    requires { ⌜ Close (now coords) × Cut (now rows) (now starts) x ⌝ }
-    ensures { λ r. ⌜ r ≡ isSound (meshOf (now (coords .entry)) [] []) (tabled 0 [] [] [] (part (now (rows .entry)) (now (starts .entry)) x)) (now (s .entry)) ⌝ }
-{
-    let from = start_of(starts, x);
-    let end = start_of(starts, x + 1);
-    is_sound(coords, s, &rows[from..end])
-}
-
-// The faces of a part of the tables may be faces of the mesh.
-fn faces_part(
-    marks: &[u8],
-    s: &[u16],
-    triangles: &[u8],
-    tstarts: &[u8],
-    quads: &[u8],
-    qstarts: &[u8],
-    x: usize,
-) -> bool
-    requires { ⌜ length (now marks) ≡ 131072 ⌝ }
-    requires { ⌜ Cut (now triangles) (now tstarts) x × Cut (now quads) (now qstarts) x ⌝ }
-    ensures { λ r. ⌜ r ≡ facesNoted (now (marks .entry)) (tabled 0 [] (part (now (triangles .entry)) (now (tstarts .entry)) x) (part (now (quads .entry)) (now (qstarts .entry)) x) []) (now (s .entry)) ⌝ }
-{
-    let from = start_of(tstarts, x);
-    let end = start_of(tstarts, x + 1);
-    let low = start_of(qstarts, x);
-    let high = start_of(qstarts, x + 1);
-    faces_noted(marks, s, &triangles[from..end], &quads[low..high])
-}
-
-fn sound_at(coords: &[i64], s: &[u16], x: usize) -> bool
-    requires { ⌜ Close (now coords) × (x < 19) ⌝ }
-    ensures { λ r. ⌜ r ≡ isSound (meshOf (now (coords .entry)) [] []) (levelOf x) (now (s .entry)) ⌝ }
-{
-    sound_part(coords, s, &TRIPLES, &TRIPLES_AT, x)
-}
-
-fn faces_at(marks: &[u8], s: &[u16], x: usize) -> bool
-    requires { ⌜ (length (now marks) ≡ 131072) × (x < 19) ⌝ }
-    ensures { λ r. ⌜ r ≡ facesNoted (now (marks .entry)) (levelOf x) (now (s .entry)) ⌝ }
-{
-    faces_part(marks, s, &TRIANGLES, &TRIANGLES_AT, &QUADS, &QUADS_AT, x)
-}
-
-// The tuple passes the test of the level of place d: the cheap parts first.
-fn passes(coords: &[i64], marks: &[u8], s: &[u16], x: usize, d: usize) -> bool
-    requires { ⌜ Close (now coords) × (length (now marks) ≡ 131072) ⌝ }
-    requires { ⌜ (x < 19) × ((d < length (now s)) × (2 ≤ length (now s))) ⌝ }
-    ensures { λ r. ⌜ r ≡ fits (now (coords .entry)) (now (marks .entry)) x d (now (s .entry)) ⌝ }
-{
-    if !comes_after(s, x, d) {
-        return false;
-    }
-    if !faces_at(marks, s, x) {
-        return false;
-    }
-    sound_at(coords, s, x)
-}
-
-// v is from lo on, and the tuple passes with it at place d.
-fn tries(
-    coords: &[i64],
-    marks: &[u8],
-    t: [u16; 8],
-    x: usize,
-    d: usize,
-    lo: usize,
-    v: Vertex,
-) -> bool
-    requires { ⌜ Close (now coords) × (length (now marks) ≡ 131072) ⌝ }
-    requires { ⌜ (x < 19) × (d < 8) ⌝ }
-    ensures { λ r. ⌜ r ≡ (leb lo (v .0) && fits (now (coords .entry)) (now (marks .entry)) x d (set t d (v .0))) ⌝ }
-{
-    let y = v.0;
-    if wide(y) < lo {
-        return false;
-    }
-    let mut s = t;
-    s[d] = y;
-    passes(coords, marks, &s, x, d)
-}
-
 // ---- the next candidate at a place
 
-// The two are one vertex, from lo on, with which the tuple passes.
+// The two are one vertex with which the tuple passes.
 fn agree(
+    tables: &[u8],
     coords: &[i64],
     marks: &[u8],
     t: [u16; 8],
     x: usize,
     d: usize,
-    lo: usize,
     v: Vertex,
     w: Vertex,
 ) -> bool
+    requires { ⌜ now tables ≡ levels ⌝ }
     requires { ⌜ Close (now coords) × (length (now marks) ≡ 131072) ⌝ }
     requires { ⌜ (x < 19) × (d < 8) ⌝ }
-    ensures { λ r. ⌜ r ≡ (eqb (v .0) (w .0) && (leb lo (v .0) && fits (now (coords .entry)) (now (marks .entry)) x d (set t d (v .0)))) ⌝ }
+    ensures { λ r. ⌜ r ≡ (eqb (v .0) (w .0) && fits (now (coords .entry)) (now (marks .entry)) x d (set t d (v .0))) ⌝ }
 {
     if v.0 != w.0 {
         return false;
     }
-    tries(coords, marks, t, x, d, lo, v)
+    tries(tables, coords, marks, t, x, d, v)
+}
+
+// Where the entries from lo on begin in a row, by halving.
+fn enter(row: &[u16], lo: usize) -> usize
+    requires { ⌜ Rises (now row) ⌝ }
+    ensures { λ r. ⌜ Entered (now (row .entry)) lo r ⌝ }
+{
+    let mut low = 0;
+    let mut high = row.len();
+    while low < high {
+        let mid = low + (high - low) / 2;
+        if wide(row[mid]) < lo {
+            low = mid + 1;
+        } else {
+            high = mid;
+        }
+    }
+    low
 }
 
 // The first vertex from lo on that stands in both rows and with which the tuple passes, or n.
 fn meet(
+    tables: &[u8],
     coords: &[i64],
     marks: &[u8],
     n: usize,
@@ -491,12 +142,13 @@ fn meet(
     d: usize,
     lo: usize,
 ) -> usize
+    requires { ⌜ now tables ≡ levels ⌝ }
     requires { ⌜ Close (now coords) × (length (now marks) ≡ 131072) ⌝ }
     requires { ⌜ ((x < 19) × (d < 8)) × (Rises (now one) × Rises (now two)) ⌝ }
     ensures { λ r. ⌜ Met (λ v. fits (now (coords .entry)) (now (marks .entry)) x d (set t d v)) (now (one .entry)) (now (two .entry)) n lo r ⌝ }
 {
-    let mut i = 0;
-    let mut j = 0;
+    let mut i = enter(one, lo);
+    let mut j = enter(two, lo);
     while i < one.len() {
         if two.len() <= j {
             return n;
@@ -505,7 +157,7 @@ fn meet(
         let w = two[j];
         if w < v {
             j += 1;
-        } else if agree(coords, marks, t, x, d, lo, Vertex(v), Vertex(w)) {
+        } else if agree(tables, coords, marks, t, x, d, Vertex(v), Vertex(w)) {
             return wide(v);
         } else {
             i += 1;
@@ -516,6 +168,7 @@ fn meet(
 
 // The same for two rows of the table.
 fn meet_rows(
+    tables: &[u8],
     coords: &[i64],
     marks: &[u8],
     n: usize,
@@ -527,6 +180,7 @@ fn meet_rows(
     d: usize,
     lo: usize,
 ) -> usize
+    requires { ⌜ now tables ≡ levels ⌝ }
     requires { ⌜ (Close (now coords) × (length (now marks) ≡ 131072)) × ((x < 19) × (d < 8)) ⌝ }
     requires { ⌜ Served (now table) one × Served (now table) two ⌝ }
     ensures { λ r. ⌜ Met (λ v. fits (now (coords .entry)) (now (marks .entry)) x d (set t d v)) (entriesOf (now (table .entry)) one) (entriesOf (now (table .entry)) two) n lo r ⌝ }
@@ -536,6 +190,7 @@ fn meet_rows(
     let low = two.from;
     let high = low + two.size;
     meet(
+        tables,
         coords,
         marks,
         n,
@@ -548,28 +203,19 @@ fn meet_rows(
     )
 }
 
-fn joined_of(x: usize) -> usize
+// The row of the first joined corner, or, where three corners are joined to the place, the one of the first two with fewer neighbours.
+fn nearer(tables: &[u8], x: usize, r: Row, q: Row) -> Row
+    requires { ⌜ now tables ≡ levels ⌝ }
     requires { ⌜ x < 19 ⌝ }
-    ensures { λ r. ⌜ (r ≡ getD joined x 0) × (r < 8) ⌝ }
-{
-    JOINED[x]
-}
-
-fn also_of(x: usize) -> usize
-    requires { ⌜ x < 19 ⌝ }
-    ensures { λ r. ⌜ (r ≡ getD also x 0) × (r < 8) ⌝ }
-{
-    ALSO[x]
-}
-
-// Of two rows the one with fewer neighbours.
-fn fewer(r: Row, q: Row) -> Row
     ensures { λ a. ⌜ (a ≡ r) ⊎ (a ≡ q) ⌝ }
 {
-    if q.size < r.size { q } else { r }
+    if also_of(tables, x) == third_of(tables, x) {
+        return r;
+    }
+    fewer(r, q)
 }
 
-// The other one, unless it is so long that going through it costs more than it tells.
+// The other one of two rows, unless it is so long that going through it costs more than it tells.
 fn partner(r: Row, q: Row) -> Row
     ensures { λ a. ⌜ (a ≡ r) ⊎ (a ≡ q) ⌝ }
 {
@@ -584,137 +230,212 @@ fn partner(r: Row, q: Row) -> Row
 
 // ---- looking ahead
 
-// The place at entry i of the look-ahead's row x.
-fn look_of(x: usize, i: usize) -> usize
-    requires { ⌜ (x < 19) × (i < 4) ⌝ }
-    ensures { λ r. ⌜ (r ≡ look x i) × (r < 8) ⌝ }
+// The corners of the kinds 8 and 6 are all above the first one.
+fn floor_of(t: [u16; 8], x: usize) -> usize
+    ensures { λ r. ⌜ r ≡ floorOf t x ⌝ }
 {
-    AHEAD[4 * x + i]
+    if x < 14 { wide(t[0]) + 1 } else { 0 }
 }
 
-// What the look-ahead at a place goes by: whether any cell goes on, whether both pairs of the row are asked for, and the vertex that may not link them.
+// What the look-ahead at a place goes by: whether any cell goes on, whether both pairs of the row are asked for, and two vertices that may not link
+// them, which may be one.
 struct Aim {
     some: bool,
     both: bool,
+    o: u16,
     p: u16,
 }
 
-// At row 3 the face of the first three corners needs a vertex that links them: without one no cell goes on, and a sole one is a corner of that face
-// and links no other face of the place; nor does the second corner, which is taken where it has too many tetrahedra. At row 11 it is the vertex most likely to link both side faces, which only place 3 itself may.
-fn aim_at(
+// By the vertices q that link the first three corners. One with many neighbours is barred: it may link both side faces only if it is place 3 itself.
+// Where at row 3 a pair links them, both are barred: one of them is a corner of that face.
+fn aim_among(
     labels: &[u16],
     n: usize,
-    offsets: &[u16],
-    entries: &[u16],
+    table: &[u16],
     marks: &[u8],
     t: [u16; 8],
     x: usize,
+    q: Linking,
 ) -> Aim
-    requires { ⌜ Indexed (now labels) n (now offsets) (now entries) × Marked (now labels) (now marks) ⌝ }
-    ensures { λ r. ⌜ Aims (now (labels .entry)) t x (r .some) (r .both) (r .p) ⌝ }
+    requires { ⌜ Lent (now labels) n (now table) (now marks) ⌝ }
+    requires { ⌜ ((x ≡ 3) ⊎ (x ≡ 11)) × Only (LinksFirst (now labels) t) q ⌝ }
+    ensures { λ r. ⌜ Aims (now (labels .entry)) t x (r .some) (r .both) (r .o) (r .p) ⌝ }
 {
-    if x != 3 {
-        if x != 11 {
-            return Aim {
-                some: true,
-                both: true,
-                p: 65535,
-            };
-        }
-    }
-    let q = sole(
-        labels,
-        n,
-        offsets,
-        entries,
-        marks,
-        Vertex(t[0]),
-        Vertex(t[1]),
-        Vertex(t[2]),
-    );
-    if q.vertex == t[1] {
+    let o = q.other;
+    let p = q.vertex;
+    let v = fuller(labels, n, table, marks, Vertex(o), Vertex(p));
+    let row = row_of(labels, n, table, Vertex(v));
+    if row.size <= HUB {
         return Aim {
             some: true,
             both: true,
-            p: t[1],
+            o: 65535,
+            p: 65535,
         };
     }
-    if x == 11 {
-        return Aim {
-            some: true,
-            both: false,
-            p: q.vertex,
-        };
+    if x == 3 {
+        if q.pair {
+            return Aim {
+                some: true,
+                both: false,
+                o: o,
+                p: p,
+            };
+        }
     }
     Aim {
-        some: q.some,
-        both: q.single,
-        p: q.vertex,
+        some: true,
+        both: false,
+        o: v,
+        p: v,
     }
 }
 
-// The least vertex from lo on that can follow the pair at the entries i and i + 1 of row x, or n; p may not link them.
-fn reach(
+// At row 3 the face of the first three corners needs a vertex that links them: without one no cell goes on, and a sole one is a corner of that
+// face and links no other face of the place.
+fn aim_by(
     labels: &[u16],
     n: usize,
-    offsets: &[u16],
-    entries: &[u16],
+    table: &[u16],
+    marks: &[u8],
+    t: [u16; 8],
+    x: usize,
+    q: Linking,
+) -> Aim
+    requires { ⌜ Lent (now labels) n (now table) (now marks) ⌝ }
+    requires { ⌜ ((x ≡ 3) ⊎ (x ≡ 11)) × Only (LinksFirst (now labels) t) q ⌝ }
+    ensures { λ r. ⌜ Aims (now (labels .entry)) t x (r .some) (r .both) (r .o) (r .p) ⌝ }
+{
+    if x == 3 {
+        let p = q.vertex;
+        if !q.some {
+            return Aim {
+                some: false,
+                both: true,
+                o: p,
+                p: p,
+            };
+        }
+        if q.single {
+            return Aim {
+                some: true,
+                both: true,
+                o: p,
+                p: p,
+            };
+        }
+    }
+    aim_among(labels, n, table, marks, t, x, q)
+}
+
+// At row 16 any vertex may be barred: the apex links the first three corners, and so does another corner.
+fn aim_at(labels: &[u16], n: usize, table: &[u16], marks: &[u8], t: [u16; 8], x: usize) -> Aim
+    requires { ⌜ Lent (now labels) n (now table) (now marks) ⌝ }
+    ensures { λ r. ⌜ Aims (now (labels .entry)) t x (r .some) (r .both) (r .o) (r .p) ⌝ }
+{
+    let a = Vertex(t[0]);
+    let b = Vertex(t[1]);
+    if x != 3 {
+        if x != 11 {
+            let mut p = 65535;
+            if x == 16 {
+                p = fullest(labels, n, table, marks, a, b);
+            }
+            return Aim {
+                some: true,
+                both: true,
+                o: p,
+                p: p,
+            };
+        }
+    }
+    let bar = Bar {
+        floor: wide(t[0]) + 1,
+        o: t[1],
+        p: t[1],
+        q: t[1],
+    };
+    let q = sole(labels, n, table, marks, bar, a, b, Vertex(t[2]));
+    aim_by(labels, n, table, marks, t, x, q)
+}
+
+// The least vertex from lo on that can follow the pair at the entries i and i + 1 of row x, or n; o and p may not link them, nor the place at entry i + 2.
+fn reach(
+    tables: &[u8],
+    labels: &[u16],
+    n: usize,
+    table: &[u16],
     marks: &[u8],
     t: [u16; 8],
     x: usize,
     i: usize,
+    o: Vertex,
     p: Vertex,
     lo: usize,
 ) -> usize
-    requires { ⌜ Indexed (now labels) n (now offsets) (now entries) × (Marked (now labels) (now marks) × ((n ≤ 512) × (lo ≤ n))) ⌝ }
-    requires { ⌜ (x < 19) × (i < 3) ⌝ }
-    ensures { λ r. ⌜ Least (ClosesPair (now (labels .entry)) t x i (p .0)) lo n r ⌝ }
+    requires { ⌜ now tables ≡ levels ⌝ }
+    requires { ⌜ Lent (now labels) n (now table) (now marks) × (lo ≤ n) ⌝ }
+    requires { ⌜ (x < 19) × (i < 4) ⌝ }
+    ensures { λ r. ⌜ Least (ClosesPair (now (labels .entry)) t x i (o .0) (p .0)) lo n r ⌝ }
 {
-    let u = t[look_of(x, i)];
-    let w = t[look_of(x, i + 1)];
-    beyond(
-        labels,
-        n,
-        offsets,
-        entries,
-        marks,
-        p,
-        Vertex(u),
-        Vertex(w),
-        lo,
-    )
+    let u = t[look_of(tables, x, i)];
+    let w = t[look_of(tables, x, i + 1)];
+    let q = t[look_of(tables, x, i + 2)];
+    let bar = Bar {
+        floor: floor_of(t, x),
+        o: o.0,
+        p: p.0,
+        q: q,
+    };
+    beyond(labels, n, table, marks, bar, Vertex(u), Vertex(w), lo)
+}
+
+// Whether the second pair of row x is the first again.
+fn is_twice(tables: &[u8], x: usize) -> bool
+    requires { ⌜ now tables ≡ levels ⌝ }
+    requires { ⌜ x < 19 ⌝ }
+{
+    if look_of(tables, x, 0) == look_of(tables, x, 3) {
+        look_of(tables, x, 1) == look_of(tables, x, 4)
+    } else {
+        false
+    }
 }
 
 // The least vertex from lo on that can follow by the aim, or n; where both pairs are asked for, one that follows the second alone may come before it.
 fn leap(
+    tables: &[u8],
     labels: &[u16],
     n: usize,
-    offsets: &[u16],
-    entries: &[u16],
+    table: &[u16],
     marks: &[u8],
     t: [u16; 8],
     x: usize,
     aim: Aim,
     lo: usize,
 ) -> usize
-    requires { ⌜ Indexed (now labels) n (now offsets) (now entries) × (Marked (now labels) (now marks) × ((n ≤ 512) × (lo ≤ n))) ⌝ }
+    requires { ⌜ now tables ≡ levels ⌝ }
+    requires { ⌜ Lent (now labels) n (now table) (now marks) × (lo ≤ n) ⌝ }
     requires { ⌜ x < 19 ⌝ }
-    ensures { λ r. ⌜ Least (Follows (now (labels .entry)) t x (aim .p) (aim .both)) lo n r ⌝ }
+    ensures { λ r. ⌜ Least (Follows (now (labels .entry)) t x (aim .o) (aim .p) (aim .both)) lo n r ⌝ }
 {
-    let p = aim.p;
-    let v = reach(labels, n, offsets, entries, marks, t, x, 0, Vertex(p), lo);
+    let o = Vertex(aim.o);
+    let p = Vertex(aim.p);
+    let v = reach(tables, labels, n, table, marks, t, x, 0, o, p, lo);
     if aim.both {
-        return reach(labels, n, offsets, entries, marks, t, x, 2, Vertex(p), v);
+        if is_twice(tables, x) {
+            return v;
+        }
+        return reach(tables, labels, n, table, marks, t, x, 3, o, p, v);
     }
-    let r = reach(labels, n, offsets, entries, marks, t, x, 2, Vertex(p), lo);
-    if v < r {
-        return lower(Vertex(p), lo, v);
-    }
-    lower(Vertex(p), lo, r)
+    let r = reach(tables, labels, n, table, marks, t, x, 3, o, p, lo);
+    let b = if v < r { v } else { r };
+    lower(o, lo, lower(p, lo, b))
 }
 
 // The tuple goes on with v at place d: where this is false, no cell does.
 fn goes_on(
+    tables: &[u8],
     coords: &[i64],
     marks: &[u8],
     n: usize,
@@ -723,6 +444,7 @@ fn goes_on(
     d: usize,
     v: usize,
 ) -> bool
+    requires { ⌜ now tables ≡ levels ⌝ }
     requires { ⌜ Close (now coords) × ((length (now marks) ≡ 131072) × (n ≤ 512)) ⌝ }
     requires { ⌜ (x < 19) × (d < 8) ⌝ }
     ensures { λ r. ⌜ Stops (Fit (now (coords .entry)) (now (marks .entry)) x d t) n v r ⌝ }
@@ -730,34 +452,35 @@ fn goes_on(
     if n <= v {
         return false;
     }
-    tries(coords, marks, t, x, d, 0, Vertex(v as u16))
+    tries(tables, coords, marks, t, x, d, Vertex(v as u16))
 }
 
 // A vertex from lo on with which the tuple goes on at place d, or n. No cell is left out before it.
 fn hunt(
+    tables: &[u8],
     coords: &[i64],
     labels: &[u16],
     n: usize,
-    offsets: &[u16],
-    entries: &[u16],
+    table: &[u16],
     marks: &[u8],
     t: [u16; 8],
     x: usize,
     d: usize,
     lo: usize,
 ) -> usize
-    requires { ⌜ (Close (now coords) × Indexed (now labels) n (now offsets) (now entries)) × (Marked (now labels) (now marks) × (n ≤ 512)) ⌝ }
+    requires { ⌜ now tables ≡ levels ⌝ }
+    requires { ⌜ Close (now coords) × Lent (now labels) n (now table) (now marks) ⌝ }
     requires { ⌜ (x < 19) × (d < 8) ⌝ }
     ensures { λ r. ⌜ Least (Goes (now (coords .entry)) (now (labels .entry)) (now (marks .entry)) x d t) lo n r ⌝ }
 {
-    let aim = aim_at(labels, n, offsets, entries, marks, t, x);
+    let aim = aim_at(labels, n, table, marks, t, x);
     if !aim.some {
         return n;
     }
     let mut v = lo;
     while v < n {
-        let r = leap(labels, n, offsets, entries, marks, t, x, aim, v);
-        if goes_on(coords, marks, n, t, x, d, r) {
+        let r = leap(tables, labels, n, table, marks, t, x, aim, v);
+        if goes_on(tables, coords, marks, n, t, x, d, r) {
             return r;
         }
         v = r + 1;
@@ -765,15 +488,74 @@ fn hunt(
     n
 }
 
-// Whether to look ahead at a place: it pays where the joined corner has many neighbours, and serves from the third place on.
-fn is_hub(d: usize, size: usize) -> bool
-    ensures { λ r. ⌜ (r ≡ true → 1 < d) ⌝ }
+// Whether to look ahead at row x: it has a pair of places, and both joined corners have many neighbours.
+fn is_hub(tables: &[u8], x: usize, size: usize) -> bool
+    requires { ⌜ now tables ≡ levels ⌝ }
+    requires { ⌜ x < 19 ⌝ }
+    ensures { λ r. ⌜ (r ≡ true → eqb (look x 0) (look x 1) ≡ false) ⌝ }
 {
-    if 1 < d { HUB < size } else { false }
+    if look_of(tables, x, 0) == look_of(tables, x, 1) {
+        return false;
+    }
+    HUB < size
+}
+
+// How many neighbours the one with fewer has of the pair at the entries i and i + 1 of row x.
+fn pair_size(
+    tables: &[u8],
+    labels: &[u16],
+    n: usize,
+    table: &[u16],
+    t: [u16; 8],
+    x: usize,
+    i: usize,
+) -> usize
+    requires { ⌜ (now tables ≡ levels) × (Tabled (meshOf [] (now labels) []) n (now table) × ((x < 19) × (i < 5))) ⌝ }
+{
+    let u = t[look_of(tables, x, i)];
+    let w = t[look_of(tables, x, i + 1)];
+    let r = row_of(labels, n, table, Vertex(u));
+    let q = row_of(labels, n, table, Vertex(w));
+    let one = fewer(r, q);
+    one.size
+}
+
+// Whether looking ahead pays where a row of this size would be gone through: a pair of row x has few neighbours beside it.
+fn is_far(
+    tables: &[u8],
+    labels: &[u16],
+    n: usize,
+    table: &[u16],
+    t: [u16; 8],
+    x: usize,
+    size: usize,
+) -> bool
+    requires { ⌜ (now tables ≡ levels) × (Tabled (meshOf [] (now labels) []) n (now table) × (x < 19)) ⌝ }
+{
+    let most = size / 4;
+    if pair_size(tables, labels, n, table, t, x, 0) <= most {
+        return true;
+    }
+    pair_size(tables, labels, n, table, t, x, 3) <= most
+}
+
+// lo, or the first vertex above those that place d must be above.
+fn rise(tables: &[u8], t: [u16; 8], x: usize, lo: usize) -> usize
+    requires { ⌜ now tables ≡ levels ⌝ }
+    requires { ⌜ x < 19 ⌝ }
+    ensures { λ r. ⌜ Raised t x lo r ⌝ }
+{
+    let k = lesser_of(tables, x);
+    if k == 0 {
+        return lo;
+    }
+    let y = wide(t[k - 1]) + 1;
+    if lo < y { y } else { lo }
 }
 
 // Where to go on at place d from lo: a vertex with which the tuple passes, or n. No cell is left out before it.
 fn seek(
+    tables: &[u8],
     coords: &[i64],
     labels: &[u16],
     n: usize,
@@ -786,6 +568,7 @@ fn seek(
     d: usize,
     lo: usize,
 ) -> usize
+    requires { ⌜ now tables ≡ levels ⌝ }
     requires { ⌜ Ready (now coords) (now labels) n (now offsets) (now entries) (now marks) (now table) ⌝ }
     requires { ⌜ d < templateOf kind .corners ⌝ }
     ensures { λ r. ⌜ ((ps : List ℕ) → Skips (isLeaf (meshOf (now (coords .entry)) (now (labels .entry)) ps) (templateOf kind)) t d n lo r) ⌝ }
@@ -794,28 +577,32 @@ fn seek(
         return lo;
     }
     let x = base_of(kind) + d;
-    let u = t[joined_of(x)];
-    let w = t[also_of(x)];
-    let r = row_of(labels, n, table, Vertex(u));
-    let q = row_of(labels, n, table, Vertex(w));
-    let one = fewer(r, q);
-    if is_hub(d, one.size) {
-        return hunt(coords, labels, n, offsets, entries, marks, t, x, d, lo);
+    let from = rise(tables, t, x, lo);
+    let r = row_of(labels, n, table, Vertex(t[joined_of(tables, x)]));
+    let q = row_of(labels, n, table, Vertex(t[also_of(tables, x)]));
+    let s = row_of(labels, n, table, Vertex(t[third_of(tables, x)]));
+    let f = nearer(tables, x, r, q);
+    let one = fewer(f, s);
+    if is_hub(tables, x, one.size) {
+        if is_far(tables, labels, n, table, t, x, one.size) {
+            return hunt(tables, coords, labels, n, table, marks, t, x, d, from);
+        }
     }
-    let two = partner(r, q);
-    meet_rows(coords, marks, n, table, one, two, t, x, d, lo)
+    let two = partner(f, s);
+    meet_rows(tables, coords, marks, n, table, one, two, t, x, d, from)
 }
 
 // ---- the test of a whole tuple
 
 // Each of the first k vertices is above those that it must be above; b is where the rows of the kind begin.
-fn all_above(s: &[u16], k: usize, b: usize) -> bool
+fn all_above(tables: &[u8], s: &[u16], k: usize, b: usize) -> bool
+    requires { ⌜ now tables ≡ levels ⌝ }
     requires { ⌜ ((k ≤ length (now s)) × (2 ≤ length (now s))) × (b + k ≤ 19) ⌝ }
     ensures { λ r. ⌜ r ≡ all (λ d. all (λ j. ltb (getD (now (s .entry)) j 0) (getD (now (s .entry)) d 0)) (upTo (getD lesser (b + d) 0))) (upTo k) ⌝ }
 {
     let mut d = 0;
     while d < k {
-        if !is_above(s, lesser_of(b + d), Vertex(s[d])) {
+        if !is_above(s, lesser_of(tables, b + d), Vertex(s[d])) {
             return false;
         }
         d += 1;
@@ -823,10 +610,11 @@ fn all_above(s: &[u16], k: usize, b: usize) -> bool
     true
 }
 
-fn is_least(kind: u16, s: [u16; 8]) -> bool
+fn is_least(tables: &[u8], kind: u16, s: [u16; 8]) -> bool
+    requires { ⌜ now tables ≡ levels ⌝ }
     ensures { λ r. ⌜ r ≡ isLeast (templateOf kind) (at s (templateOf kind .places)) ⌝ }
 {
-    all_above(&s, corners_of(kind), base_of(kind))
+    all_above(tables, &s, corners_of(kind), base_of(kind))
 }
 
 // The tuple in letter order.
@@ -839,7 +627,9 @@ fn letters(kind: u16, s: [u16; 8]) -> [u16; 8]
     s
 }
 
+// The tuple is a cell in least form, and the tetrahedra of that cell.
 fn is_leaf(
+    tables: &[u8],
     coords: &[i64],
     labels: &[u16],
     parts: &[u16],
@@ -848,12 +638,14 @@ fn is_leaf(
     entries: &[u16],
     kind: u16,
     s: [u16; 8],
-) -> bool
+) -> Verdict
+    requires { ⌜ now tables ≡ levels ⌝ }
     requires { ⌜ Arrays (now coords) (now labels) (now parts) n (now offsets) (now entries) ⌝ }
-    ensures { λ r. ⌜ r ≡ isLeaf (meshOf (now (coords .entry)) (now (labels .entry)) (now (parts .entry))) (templateOf kind) s ⌝ }
+    ensures { λ r. ⌜ r .yes ≡ isLeaf (meshOf (now (coords .entry)) (now (labels .entry)) (now (parts .entry))) (templateOf kind) s ⌝ }
+    ensures { λ r. ⌜ (r .yes ≡ true → Numbered (cellAt (meshOf (now (coords .entry)) (now (labels .entry)) (now (parts .entry))) (templateOf kind) s .tets) (r .tets)) ⌝ }
 {
-    if !is_least(kind, s) {
-        return false;
+    if !is_least(tables, kind, s) {
+        return no();
     }
     let c = letters(kind, s);
     is_cell(coords, labels, parts, n, offsets, entries, kind, &c)
@@ -863,6 +655,7 @@ fn is_leaf(
 
 // The first place at which no cell goes on with the mark's entry, or the last.
 fn start(
+    tables: &[u8],
     coords: &[i64],
     labels: &[u16],
     n: usize,
@@ -873,6 +666,7 @@ fn start(
     kind: u16,
     mark: [u16; 8],
 ) -> usize
+    requires { ⌜ now tables ≡ levels ⌝ }
     requires { ⌜ Ready (now coords) (now labels) n (now offsets) (now entries) (now marks) (now table) ⌝ }
     ensures { λ r. ⌜ Begins (now (coords .entry)) (now (labels .entry)) kind mark r ⌝ }
 {
@@ -881,6 +675,7 @@ fn start(
     while d + 1 < k {
         let v = wide(mark[d]);
         if seek(
+            tables,
             coords,
             labels,
             n,
@@ -903,7 +698,8 @@ fn start(
 }
 
 // The least tuple of a kind after the mark that is a cell in least form. Entries past the kind's corners keep what the mark has there.
-pub fn next(
+fn next_by(
+    tables: &[u8],
     coords: &[i64],
     labels: &[u16],
     parts: &[u16],
@@ -915,12 +711,15 @@ pub fn next(
     kind: u16,
     mark: [u16; 8],
 ) -> Found
+    requires { ⌜ now tables ≡ levels ⌝ }
     requires { ⌜ Ready (now coords) (now labels) n (now offsets) (now entries) (now marks) (now table) × (length (now parts) ≡ length (now labels) / 4) ⌝ }
     ensures { λ r. ⌜ LeastAfter (templateOf kind .corners) (isLeaf (meshOf (now (coords .entry)) (now (labels .entry)) (now (parts .entry))) (templateOf kind)) mark (r .found) (r .tuple) ⌝ }
+    ensures { λ r. ⌜ (r .found ≡ true → Numbered (cellAt (meshOf (now (coords .entry)) (now (labels .entry)) (now (parts .entry))) (templateOf kind) (r .tuple) .tets) (r .tets)) ⌝ }
 {
     let k = corners_of(kind);
     let mut t = mark;
     let mut d = start(
+        tables,
         coords,
         labels,
         n,
@@ -934,6 +733,7 @@ pub fn next(
     let mut lo = wide(t[d]) + 1;
     loop {
         let c = seek(
+            tables,
             coords,
             labels,
             n,
@@ -951,22 +751,60 @@ pub fn next(
             if d + 1 < k {
                 d += 1;
                 lo = 0;
-            } else if is_leaf(coords, labels, parts, n, offsets, entries, kind, t) {
-                return Found {
-                    found: true,
-                    tuple: t,
-                };
             } else {
+                let v = is_leaf(tables, coords, labels, parts, n, offsets, entries, kind, t);
+                if v.yes {
+                    let tets = v.tets;
+                    return Found {
+                        found: true,
+                        tuple: t,
+                        tets,
+                    };
+                }
                 lo = c + 1;
             }
         } else if d == 0 {
             return Found {
                 found: false,
                 tuple: t,
+                tets: no_tets(),
             };
         } else {
             d -= 1;
             lo = wide(t[d]) + 1;
         }
     }
+}
+
+// The same, with the tables of the levels made once.
+pub fn next(
+    coords: &[i64],
+    labels: &[u16],
+    parts: &[u16],
+    n: usize,
+    offsets: &[u16],
+    entries: &[u16],
+    marks: &[u8],
+    table: &[u16],
+    kind: u16,
+    mark: [u16; 8],
+) -> Found
+    requires { ⌜ Ready (now coords) (now labels) n (now offsets) (now entries) (now marks) (now table) × (length (now parts) ≡ length (now labels) / 4) ⌝ }
+    ensures { λ r. ⌜ LeastAfter (templateOf kind .corners) (isLeaf (meshOf (now (coords .entry)) (now (labels .entry)) (now (parts .entry))) (templateOf kind)) mark (r .found) (r .tuple) ⌝ }
+    ensures { λ r. ⌜ (r .found ≡ true → Numbered (cellAt (meshOf (now (coords .entry)) (now (labels .entry)) (now (parts .entry))) (templateOf kind) (r .tuple) .tets) (r .tets)) ⌝ }
+{
+    let all = tables();
+    next_by(
+        &all,
+        coords,
+        labels,
+        parts,
+        n,
+        offsets,
+        entries,
+        marks,
+        table,
+        kind,
+        mark,
+    )
 }

@@ -1,5 +1,5 @@
 -- Conditions 5 and 6 by the numbers of a cell's tetrahedra. Assumes nothing.
-use mathlib.Core.Path.{_≡_, refl, sym, _∙_, ap, fun-ext}
+use mathlib.Core.Path.{_≡_, refl, sym, _∙_, ap, subst, fun-ext}
 use mathlib.Core.Bool.{Bool, true, false, cond}
 use mathlib.Core.List.{List, [], _∷_, _++_, map}
 use Prim.Native.Nat.{ℕ, zero, suc, _+_, _-_, _*_, _/_, _≤_, _<_}
@@ -44,8 +44,11 @@ pub numbers-same : (zs : List ℤ) (ls ps : List ℕ) (t u : Template) (c : List
 unfolding belongs
 numbers-same zs ls ps t u c e = numbers-are [] ls [] t c ∙ (rw e refl) ∙ sym (numbers-are zs ls ps u c)
 
-pub found-same : {f : Tets} (ls c : List ℕ) (t u : Template) → t .quads ≡ u .quads → Found (numbersOf (meshOf [] ls []) t c) f → Found (numbersOf (meshOf [] ls []) u c) f
-found-same ls c t u e h = rw (numbers-same [] ls [] t u c e) at h
+pub found-as : {xs ys : List ℕ} {f : Tets} → xs ≡ ys → Found xs f → Found ys f
+found-as {f = f} e h = subst (λ l. Found l f) e h
+
+pub found-same : {f : Tets} (zs : List ℤ) (ls ps c : List ℕ) (t u : Template) → t .quads ≡ u .quads → Found (numbersOf (meshOf [] ls []) t c) f → Found (numbersOf (meshOf zs ls ps) u c) f
+found-same zs ls ps c t u e h = found-as (numbers-same zs ls ps t u c e) h
 
 module _ (ls ps qs c : List ℕ) where
   abbrev numbers : List ℕ

@@ -1,23 +1,27 @@
 -- Condition 5 implies 2 and 3: a triangle on the boundary is a facet of one of the cell's tetrahedra, and every edge is a side of one,
 -- whichever diagonal a quadrilateral has. Assumes nothing.
 use mathlib.Core.Path.{_≡_, refl, sym, _∙_, ap}
-use mathlib.Core.Bool.{Bool, true, false, cond, _&&_, _||_}
+use mathlib.Core.Bool.{Bool, true, false, cond, _&&_, _||_, true≢false}
 use mathlib.Core.Logic.{_⊎_, inl, inr, ⊎-elim}
 use mathlib.Core.List.{List, [], _∷_}
 use Prim.Native.Nat.{ℕ, suc}
 use native.Mathlib.Omega.{arith}
 use borrow.Author.Tests.{eqb-true}
 use lib.Dec.{eqb}
+use lib.IntN.{ℤ}
 use lib.ListN.{getD}
 use Rattle.base.specs.Lists.{all, any, count, keep, isIn}
 use Rattle.base.proofs.Bools.{and-left, and-right}
 use Rattle.base.proofs.Lists.{all-at, any-at}
 use Rattle.base.proofs.Members.{all-map}
 use Rattle.space.specs.Mesh.{Mesh, Tetrahedron, holds, together}
+use Rattle.space.specs.Arrays.{meshOf}
 use Rattle.around.proofs.Around.{count-keep}
 use Rattle.templates.specs.Tables.{Template, hexahedron, prism, pyramid, at}
 use Rattle.cells.specs.Cells.{first, second, inside, one, noneOrTwo, isTuple, hasEdges, isFacet, isSplit, hasFaces, isSound, belongs, tetsOf, sides, isOnce, isPaired, isCovered, isFilledBy, isFilled, isOnePart, isCell}
-use Rattle.verdict.specs.Judged.{lastOf, isSolid}
+use Rattle.verdict.specs.declared.Verdict.{Verdict}
+use Rattle.verdict.specs.Judged.{lastOf, isSolid, Tells}
+use Rattle.verdict.proofs.Numbers.{numbers-same, found-as}
 
 or-left : (a b : Bool) → a ≡ true → (a || b) ≡ true
 or-left a b e = rw e
@@ -172,6 +176,17 @@ unfolding isSolid isCell
 solid-is m t c w =
     edgeless-is m t c ∙
     drop-two (isTuple m t c) (hasEdges m t c) (hasFaces m t c) (isSound m t c) (isFilled m t c) (isOnePart m t c) (filled-faces m t c) (faces-edges m t c w)
+
+-- the same with the tetrahedra, which the edges have no say in
+pub tells-cell : {v : Verdict} (zs : List ℤ) (ls ps : List ℕ) (t : Template) (c : List ℕ) → edged t ≡ true → Tells isSolid (meshOf zs ls ps) (edgeless t) c v → Tells isCell (meshOf zs ls ps) t c v
+tells-cell {v} zs ls ps t c w x = record {
+  is = x .is ∙ solid-is (meshOf zs ls ps) t c w;
+  tets = λ y. found-as (sym (numbers-same zs ls ps t (edgeless t) c refl) ∙ numbers-same zs ls ps t t c refl) (x .tets y);
+}
+
+-- no is told where the test fails; then no tetrahedra are asked for
+pub tells-no : {test : Mesh → Template → List ℕ → Bool} {m : Mesh} {t : Template} {c : List ℕ} {v : Verdict} → v .yes ≡ false → false ≡ test m t c → Tells test m t c v
+tells-no n e = record { is = n ∙ e; tets = λ y. absurd (true≢false (sym y ∙ n)) }
 
 pub hexahedron-edged : edged hexahedron ≡ true
 unfolding first second

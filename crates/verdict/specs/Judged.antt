@@ -1,8 +1,8 @@
--- What is known of the arrays of an accepted mesh, and the verdict of conditions 5 and 6.
+-- What is known of the arrays of an accepted mesh, the first failing of conditions 5 and 6, and what a verdict tells.
 -- Assumes nothing.
 use Prim.Native.Nat.{ℕ, _/_}
 use mathlib.Core.Path.{_≡_}
-use mathlib.Core.Bool.{Bool, cond, _&&_}
+use mathlib.Core.Bool.{Bool, true, cond, _&&_}
 use mathlib.Core.List.{List, []}
 use lib.IntN.{ℤ}
 use lib.ListN.{length}
@@ -10,8 +10,10 @@ use Rattle.space.specs.Mesh.{Mesh}
 use Rattle.space.specs.Arrays.{meshOf, Close}
 use Rattle.around.specs.Index.{Indexed}
 use Rattle.templates.specs.Tables.{Template}
-use Rattle.cells.specs.Cells.{isTuple, isSound, isFilledBy, isFilled, isOnePart}
+use Rattle.cells.specs.Cells.{isTuple, isSound, isFilledBy, isFilled, isOnePart, numbersOf}
 use Rattle.cells.specs.Rows.{threes, tabled, quadsOf}
+use Rattle.filling.specs.Found.{Found}
+use Rattle.verdict.specs.declared.Verdict.{Verdict}
 
 -- coordinates in bounds, a part a tetrahedron, and the index of the labels
 pub record Arrays (zs : List ℤ) (ls ps : List ℕ) (n : ℕ) (offsets entries : List ℕ) : Type 0 where
@@ -31,3 +33,8 @@ lastFailing ls ps c ts qs ws =
 -- conditions 1, 4, 5 and 6
 unfoldable pub isSolid : Mesh → Template → List ℕ → Bool
 isSolid m t c = isTuple m t c && isSound m t c && (isFilled m t c && isOnePart m t c)
+
+-- the verdict is what `test` says of the tuple c; where it is yes, it has the tuple's tetrahedra
+pub record Tells (test : Mesh → Template → List ℕ → Bool) (m : Mesh) (t : Template) (c : List ℕ) (v : Verdict) : Type 0 where
+  pub is : v .yes ≡ test m t c
+  pub tets : v .yes ≡ true → Found (numbersOf m t c) (v .tets)

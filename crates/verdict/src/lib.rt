@@ -1,5 +1,6 @@
-// The cell test: the first of conditions 1 to 6 that a tuple fails, and the tetrahedra of a cell, for a kind and its eight numbers.
+// The cell test, for a kind and its eight numbers: the first of conditions 1 to 6 that a tuple fails; whether it is a cell, with its tetrahedra.
 ghost use mathlib.Core.Path.{_≡_};
+ghost use mathlib.Core.Bool.{false};
 ghost use mathlib.Core.List.{[]};
 ghost use Prim.Native.Nat.{_*_, _/_, _≤_};
 ghost use lib.ListN.{length, take};
@@ -11,7 +12,7 @@ ghost use Rattle.cells.specs.Cells.{inside, numbersOf, isCell, firstFailing};
 ghost use Rattle.cells.specs.Rows.{threes, fours, tabled, quadsOf};
 ghost use Rattle.filling.specs.Found.{Found};
 ghost use Rattle.filling.specs.Filled.{sidesIn, Lettered, fills, onePart};
-ghost use Rattle.verdict.specs.Judged.{Arrays, lastOf, lastFailing, isSolid};
+ghost use Rattle.verdict.specs.Judged.{Arrays, lastOf, lastFailing, isSolid, Tells};
 use cells::has_edges;
 use cells::has_faces;
 use cells::is_sound;
@@ -37,6 +38,12 @@ use templates::PYRAMID_INSIDE;
 use templates::PYRAMID_QUADS;
 use templates::PYRAMID_TRIANGLES;
 use templates::PYRAMID_TRIPLES;
+
+// Yes or no, and the tetrahedra of the cell where it is yes.
+pub struct Verdict {
+    pub yes: bool,
+    pub tets: Tets,
+}
 
 // ---- conditions 5 and 6: 5 or 6, whichever fails first, or 0
 
@@ -130,6 +137,28 @@ fn judge_few(
     )
 }
 
+// Of a cell whose tetrahedra were found.
+fn judge_found(
+    labels: &[u16],
+    parts: &[u16],
+    found: Tets,
+    c: &[u16],
+    triangles: &[u8],
+    quads: &[u8],
+    within: &[u8],
+) -> u8
+    requires { ⌜ Found (numbersOf (meshOf [] (now labels) []) (quadsOf (now quads)) (now c)) found ⌝ }
+    requires { ⌜ (length (now labels) / 4 ≤ 2048) × (length (now parts) ≡ length (now labels) / 4) ⌝ }
+    requires { ⌜ Lettered (now triangles) (now quads) (now within) ⌝ }
+    ensures { λ r. ⌜ r ≡ lastFailing (now (labels .entry)) (now (parts .entry)) (now (c .entry)) (now (triangles .entry)) (now (quads .entry)) (now (within .entry)) ⌝ }
+{
+    if found.count <= 25 {
+        judge_few(labels, parts, found, c, triangles, quads, within)
+    } else {
+        judge_many(labels, parts, c, triangles, quads, within)
+    }
+}
+
 // Of a tuple.
 fn judge_tets(
     labels: &[u16],
@@ -147,11 +176,7 @@ fn judge_tets(
     ensures { λ r. ⌜ r ≡ lastFailing (now (labels .entry)) (now (parts .entry)) (now (c .entry)) (now (triangles .entry)) (now (quads .entry)) (now (within .entry)) ⌝ }
 {
     let found = find(labels, n, offsets, entries, c, quads);
-    if found.count <= 25 {
-        judge_few(labels, parts, found, c, triangles, quads, within)
-    } else {
-        judge_many(labels, parts, c, triangles, quads, within)
-    }
+    judge_found(labels, parts, found, c, triangles, quads, within)
 }
 
 // ---- all six
@@ -330,6 +355,23 @@ pub fn judge(
 
 // ---- whether a tuple is a cell
 
+// No tetrahedra, where none are asked for.
+pub fn no_tets() -> Tets {
+    Tets {
+        count: 0,
+        list: [65535; 25],
+    }
+}
+
+pub fn no() -> Verdict
+    ensures { λ r. ⌜ r .yes ≡ false ⌝ }
+{
+    Verdict {
+        yes: false,
+        tets: no_tets(),
+    }
+}
+
 // Conditions 1, 4, 5 and 6 for the template that these tables say, the cheap ones first; `within` are the triples on no face.
 fn is_solid(
     coords: &[i64],
@@ -344,30 +386,24 @@ fn is_solid(
     quads: &[u8],
     triples: &[u8],
     within: &[u8],
-) -> bool
+) -> Verdict
     requires { ⌜ Arrays (now coords) (now labels) (now parts) n (now offsets) (now entries) ⌝ }
     requires { ⌜ threes (now within) ≡ inside (tabled corners [] (now triangles) (now quads) (now triples)) ⌝ }
     requires { ⌜ Lettered (now triangles) (now quads) (now within) ⌝ }
-    ensures { λ r. ⌜ r ≡ isSolid (meshOf (now (coords .entry)) (now (labels .entry)) (now (parts .entry))) (tabled corners [] (now (triangles .entry)) (now (quads .entry)) (now (triples .entry))) (now (c .entry)) ⌝ }
+    ensures { λ r. ⌜ Tells isSolid (meshOf (now (coords .entry)) (now (labels .entry)) (now (parts .entry))) (tabled corners [] (now (triangles .entry)) (now (quads .entry)) (now (triples .entry))) (now (c .entry)) r ⌝ }
 {
     if !is_tuple(coords, c, corners) {
-        return false;
+        return no();
     }
     if !is_sound(coords, c, triples) {
-        return false;
+        return no();
     }
-    judge_tets(
-        labels,
-        parts,
-        n,
-        offsets,
-        entries,
-        c,
-        triangles,
-        quads,
-        within,
-    )
-        == 0
+    let found = find(labels, n, offsets, entries, c, quads);
+    let last = judge_found(labels, parts, found, c, triangles, quads, within);
+    Verdict {
+        yes: last == 0,
+        tets: found,
+    }
 }
 
 fn is_hexahedron(
@@ -378,9 +414,9 @@ fn is_hexahedron(
     offsets: &[u16],
     entries: &[u16],
     c: &[u16],
-) -> bool
+) -> Verdict
     requires { ⌜ Arrays (now coords) (now labels) (now parts) n (now offsets) (now entries) ⌝ }
-    ensures { λ r. ⌜ r ≡ isCell (meshOf (now (coords .entry)) (now (labels .entry)) (now (parts .entry))) hexahedron (now (c .entry)) ⌝ }
+    ensures { λ r. ⌜ Tells isCell (meshOf (now (coords .entry)) (now (labels .entry)) (now (parts .entry))) hexahedron (now (c .entry)) r ⌝ }
 {
     is_solid(
         coords,
@@ -406,9 +442,9 @@ fn is_prism(
     offsets: &[u16],
     entries: &[u16],
     c: &[u16],
-) -> bool
+) -> Verdict
     requires { ⌜ Arrays (now coords) (now labels) (now parts) n (now offsets) (now entries) ⌝ }
-    ensures { λ r. ⌜ r ≡ isCell (meshOf (now (coords .entry)) (now (labels .entry)) (now (parts .entry))) prism (now (c .entry)) ⌝ }
+    ensures { λ r. ⌜ Tells isCell (meshOf (now (coords .entry)) (now (labels .entry)) (now (parts .entry))) prism (now (c .entry)) r ⌝ }
 {
     is_solid(
         coords,
@@ -434,9 +470,9 @@ fn is_pyramid(
     offsets: &[u16],
     entries: &[u16],
     c: &[u16],
-) -> bool
+) -> Verdict
     requires { ⌜ Arrays (now coords) (now labels) (now parts) n (now offsets) (now entries) ⌝ }
-    ensures { λ r. ⌜ r ≡ isCell (meshOf (now (coords .entry)) (now (labels .entry)) (now (parts .entry))) pyramid (now (c .entry)) ⌝ }
+    ensures { λ r. ⌜ Tells isCell (meshOf (now (coords .entry)) (now (labels .entry)) (now (parts .entry))) pyramid (now (c .entry)) r ⌝ }
 {
     is_solid(
         coords,
@@ -463,9 +499,9 @@ fn is_of_kind(
     entries: &[u16],
     kind: u16,
     tuple: &[u16],
-) -> bool
+) -> Verdict
     requires { ⌜ Arrays (now coords) (now labels) (now parts) n (now offsets) (now entries) × (8 ≤ length (now tuple)) ⌝ }
-    ensures { λ r. ⌜ r ≡ isCell (meshOf (now (coords .entry)) (now (labels .entry)) (now (parts .entry))) (templateOf kind) (take (templateOf kind .corners) (now (tuple .entry))) ⌝ }
+    ensures { λ r. ⌜ Tells isCell (meshOf (now (coords .entry)) (now (labels .entry)) (now (parts .entry))) (templateOf kind) (take (templateOf kind .corners) (now (tuple .entry))) r ⌝ }
 {
     if kind == 8 {
         return is_hexahedron(coords, labels, parts, n, offsets, entries, &tuple[..8]);
@@ -476,7 +512,7 @@ fn is_of_kind(
     is_pyramid(coords, labels, parts, n, offsets, entries, &tuple[..5])
 }
 
-// The tuple is a cell: as `judge` would say, but conditions 2 and 3 are not looked at, since 5 implies them.
+// The tuple is a cell, and its tetrahedra: as `judge` would say, but conditions 2 and 3 are not looked at, since 5 implies them.
 pub fn is_cell(
     coords: &[i64],
     labels: &[u16],
@@ -486,46 +522,9 @@ pub fn is_cell(
     entries: &[u16],
     kind: u16,
     tuple: &[u16; 8],
-) -> bool
+) -> Verdict
     requires { ⌜ Arrays (now coords) (now labels) (now parts) n (now offsets) (now entries) ⌝ }
-    ensures { λ r. ⌜ r ≡ isCell (meshOf (now (coords .entry)) (now (labels .entry)) (now (parts .entry))) (templateOf kind) (take (templateOf kind .corners) (now (tuple .entry))) ⌝ }
+    ensures { λ r. ⌜ Tells isCell (meshOf (now (coords .entry)) (now (labels .entry)) (now (parts .entry))) (templateOf kind) (take (templateOf kind .corners) (now (tuple .entry))) r ⌝ }
 {
     is_of_kind(coords, labels, parts, n, offsets, entries, kind, tuple)
-}
-
-// ---- a cell's tetrahedra
-
-fn tets_kind(
-    labels: &[u16],
-    n: usize,
-    offsets: &[u16],
-    entries: &[u16],
-    kind: u16,
-    tuple: &[u16],
-) -> Tets
-    requires { ⌜ Indexed (now labels) n (now offsets) (now entries) × (8 ≤ length (now tuple)) ⌝ }
-    ensures { λ r. ⌜ Found (numbersOf (meshOf [] (now (labels .entry)) []) (templateOf kind) (take (templateOf kind .corners) (now (tuple .entry)))) r ⌝ }
-{
-    if kind == 8 {
-        return find(labels, n, offsets, entries, &tuple[..8], &HEX_QUADS);
-    }
-    if kind == 6 {
-        return find(labels, n, offsets, entries, &tuple[..6], &PRISM_QUADS);
-    }
-    find(labels, n, offsets, entries, &tuple[..5], &PYRAMID_QUADS)
-}
-
-// The tetrahedra of a tuple: how many, and the numbers of the first 25.
-pub fn tets_of(
-    labels: &[u16],
-    n: usize,
-    offsets: &[u16],
-    entries: &[u16],
-    kind: u16,
-    tuple: &[u16; 8],
-) -> Tets
-    requires { ⌜ Indexed (now labels) n (now offsets) (now entries) ⌝ }
-    ensures { λ r. ⌜ Found (numbersOf (meshOf [] (now (labels .entry)) []) (templateOf kind) (take (templateOf kind .corners) (now (tuple .entry)))) r ⌝ }
-{
-    tets_kind(labels, n, offsets, entries, kind, tuple)
 }

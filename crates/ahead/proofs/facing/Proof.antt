@@ -1,60 +1,59 @@
 -- `ahead::facing` meets its contract. Assumes nothing.
-use Rattle.around.proofs.Around.{row-slice, slice-within}
-use Rattle.ahead.proofs.Least.{facing-least, noted-least}
+use native.Mathlib.Omega.{arith}
+use Rattle.ahead.proofs.Least.{least-of}
+use Rattle.ahead.proofs.Entries.{row-inside, faces-least}
 use borrow.Author.Needs.{needs}
 use Rattle.ahead.proofs.facing.Statement.{statement}
 use Rattle.ahead.proofs.facing.Tie as tie
 
-rarest-requires : tie.Need-rarest-requires
-rarest-requires c κs = search needs
-
-row-of-requires : tie.Need-row-of-requires
-row-of-requires c κs = search needs
+shorter-requires : tie.Need-shorter-requires
+shorter-requires c κs = search needs
 
 next-noted-requires : tie.Need-next-noted-requires
 next-noted-requires c κs = search needs
 
 returns : tie.Need-returns
 returns c =
-    let s = c .before .before .before .before .before .before .before .before .before in
-    noted-least (s .args .labels .now) (s .args .u .0) (s .args .x .0) (s .pre .1 .0) (c .next-noted .ensures)
+    let s = c .before .before .before .before .before .before .before in
+    least-of (c .next-noted .ensures) (λ v f. s .pre .0 .marked .facets (s .args .u .0) (s .args .x .0) v (f .facet))
 
 add-end : tie.Need-add-end
-add-end c = search needs
+add-end c = omega (arith, row-inside (c .before .before .before .shorter .ensures))
 
-mul-least-in-row : tie.Need-mul-least-in-row
-mul-least-in-row c = search needs
+lower-requires : tie.Need-lower-requires
+lower-requires c κs = search needs
 
-sub-least-in-row : tie.Need-sub-least-in-row
-sub-least-in-row c = search needs
+mul-noted-row : tie.Need-mul-noted-row
+mul-noted-row c = omega (arith, row-inside (c .before .before .before .before .shorter .ensures))
 
-part-least-in-row-start : tie.Need-part-least-in-row-start
-part-least-in-row-start c = search needs
+sub-noted-row : tie.Need-sub-noted-row
+sub-noted-row c = search needs
 
-part-least-in-row-end : tie.Need-part-least-in-row-end
-part-least-in-row-end c = search needs
+part-noted-row-start : tie.Need-part-noted-row-start
+part-noted-row-start c = search needs
 
-least-in-row-requires : tie.Need-least-in-row-requires
-least-in-row-requires c κs = slice-within (c .before .before .before .before .row-of .ensures)
+part-noted-row-end : tie.Need-part-noted-row-end
+part-noted-row-end c = omega (arith, row-inside (c .before .before .before .before .shorter .ensures))
+
+noted-row-requires : tie.Need-noted-row-requires
+noted-row-requires c κs = search needs
 
 returns-2 : tie.Need-returns-2
 returns-2 c =
-    let d = c .before .before .before .before .before in
-    let s = d .before .before .before .before .before .before .args in
-    facing-least (s .labels .now) (s .u .0) (s .x .0) (rw (row-slice (d .row-of .ensures), d .before .rarest .ensures) at (c .least-in-row .ensures))
+    let d = c .before .before .before .before .before .before in faces-least (d .before .before .before .before .pre .0) (d .shorter .ensures) (c .before .before .lower .ensures) (c .noted-row .ensures)
 
 pub facing-spec : {M : Type 1} → statement M
 facing-spec =
     tie.close
     (tie.spec
-    rarest-requires
-    row-of-requires
+    shorter-requires
     next-noted-requires
     returns
     add-end
-    mul-least-in-row
-    sub-least-in-row
-    part-least-in-row-start
-    part-least-in-row-end
-    least-in-row-requires
+    lower-requires
+    mul-noted-row
+    sub-noted-row
+    part-noted-row-start
+    part-noted-row-end
+    noted-row-requires
     returns-2)

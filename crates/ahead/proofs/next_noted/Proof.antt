@@ -1,10 +1,10 @@
 -- `ahead::next_noted` meets its contract. Assumes nothing.
-use mathlib.Core.Path.{_≡_, sym, _∙_}
-use mathlib.Core.Bool.{true, true≢false}
+use mathlib.Core.Path.{_≡_}
+use mathlib.Core.Bool.{true}
 use Prim.Native.Nat.{_-_}
 use native.Mathlib.Omega.{arith}
 use Rattle.marks.specs.Marks.{noted}
-use Rattle.ahead.proofs.Least.{Passed, passed-none, passed-on, passed-here, passed-all}
+use Rattle.ahead.proofs.Least.{denied, Passed, passed-none, passed-on, passed-here, passed-all}
 use Rattle.ahead.proofs.next_noted.Statement.{statement}
 use Rattle.ahead.proofs.next_noted.Tie as tie
 
@@ -35,7 +35,7 @@ loop-less c = omega arith
 loop-again : tie.Need-loop-again Inv-loop μ-loop
 loop-again c =
     let d = c .before in
-    passed-on (d .before .before .loop .inv) (λ e. true≢false (sym e ∙ (sym (d .is-noted .ensures) ∙ c .if1 .left)))
+    passed-on (d .before .before .loop .inv) (denied (d .is-noted .ensures) (c .if1 .left))
 
 returns-2 : tie.Need-returns-2 Inv-loop μ-loop
 returns-2 c = passed-all (c .before .loop .inv) (omega arith)

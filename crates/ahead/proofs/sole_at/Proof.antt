@@ -1,25 +1,27 @@
 -- `ahead::sole_at` meets its contract. Assumes nothing.
-use mathlib.Core.Path.{sym, _∙_}
-use mathlib.Core.Bool.{true≢false}
+use borrow.Author.Tests.{not-true}
+use Rattle.ahead.proofs.Least.{denied}
 use Rattle.ahead.proofs.Adding.{adds-none, adds-of}
 use borrow.Author.Needs.{needs}
 use Rattle.ahead.proofs.sole_at.Statement.{statement}
 use Rattle.ahead.proofs.sole_at.Tie as tie
 
-is-same-requires : tie.Need-is-same-requires
-is-same-requires c κs = search needs
+may-link-requires : tie.Need-may-link-requires
+may-link-requires c κs = search needs
 
 returns : tie.Need-returns
-returns c = adds-none (λ y l. true≢false (sym (sym (c .before .is-same .ensures) ∙ c .if1 .taken) ∙ l .other))
-
-is-same-requires-2 : tie.Need-is-same-requires-2
-is-same-requires-2 c κs = search needs
-
-returns-2 : tie.Need-returns-2
-returns-2 c = adds-none (λ y l. true≢false (sym (sym (c .before .is-same2 .ensures) ∙ c .if2 .taken) ∙ l .further))
+returns c = adds-none (λ y l. denied (c .before .may-link .ensures) (not-true _ (c .if1 .taken)) (l .links .may))
 
 is-noted-requires : tie.Need-is-noted-requires
 is-noted-requires c κs = search needs
+
+returns-2 : tie.Need-returns-2
+returns-2 c =
+    let s = c .before .before .before .before .before .before .before in
+    adds-none (λ y l. denied (c .before .is-noted .ensures) (not-true _ (c .if2 .taken)) (s .pre .marked .facets (s .args .u .0) (s .args .x .0) (s .args .v .0) (l .links .facet)))
+
+is-noted-requires-2 : tie.Need-is-noted-requires-2
+is-noted-requires-2 c κs = search needs
 
 one-more-requires : tie.Need-one-more-requires
 one-more-requires c κs = search needs
@@ -29,18 +31,18 @@ returns-3 c = adds-of (c .one-more .ensures) (λ y l. l .same)
 
 returns-4 : tie.Need-returns-4
 returns-4 c =
-    let s = c .before .before .before .before .before .before .before .before .before .before in
-    adds-none (λ y l. true≢false (sym (s .pre .1 .facets (s .args .u .0) (s .args .x .0) (s .args .v .0) (l .facet)) ∙ (sym (c .before .is-noted .ensures) ∙ c .if3 .left)))
+    let s = c .before .before .before .before .before .before .before .before .before in
+    adds-none (λ y l. denied (c .before .is-noted2 .ensures) (c .if3 .left) (s .pre .marked .facets (s .args .u .0) (s .args .w .0) (s .args .x .0) (l .links .near)))
 
 pub sole-at-spec : {M : Type 1} → statement M
 sole-at-spec =
     tie.close
     (tie.spec
-    is-same-requires
+    may-link-requires
     returns
-    is-same-requires-2
-    returns-2
     is-noted-requires
+    returns-2
+    is-noted-requires-2
     one-more-requires
     returns-3
     returns-4)

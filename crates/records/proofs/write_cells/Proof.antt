@@ -48,19 +48,17 @@ same-length-2 c = c .before .before .before .before .loop .inv .laid .same
 returns-3 : tie.Need-returns-3 Inv-loop μ-loop
 returns-3 c = written-full _ (c .before .before .before .before .loop .inv) (omega arith) (c .before .before .before .next-cell .ensures) _ refl (not-false _ (c .before .if2 .left)) (c .if3 .taken)
 
-tets-at-requires : tie.Need-tets-at-requires Inv-loop μ-loop
-tets-at-requires c κs = search needs
-
 same-length-3 : tie.Need-same-length-3 Inv-loop μ-loop
 same-length-3 c = c .before .before .before .before .before .before .before .before .loop .inv .laid .same
 
 returns-4 : tie.Need-returns-4 Inv-loop μ-loop
 returns-4 c =
     let l = c .before .before .before .before .before .before .before .before .loop in
-    let a = c .before .before .before .before .before .before .before .before .before .before .before .before .before .before .before .before .before .args in
-    written-long _ (l .inv) (omega arith) (c .before .before .before .before .before .before .before .next-cell .ensures) (not-false _ (c .before .before .before .before .before .if2 .left))
+    let y = not-false _ (c .before .before .before .before .before .if2 .left) in
+    let s = c .before .before .before .before .before .before .before .next-cell .ensures in
+    written-long _ (l .inv) (omega arith) s y
     (omega (arith, come-most tetRule _ (lawful _) (l .inv), c .before .before .before .before .if3 .left))
-    (fits-many (a .coords .now) (a .labels .now) (a .parts .now) _ (c .before .before .tets-at .ensures) (c .if4 .taken))
+    (fits-many _ _ (s .tets y) (c .if4 .taken))
 
 -- past the tests there is room for one record more
 below : (c : tie.Else4 Inv-loop μ-loop) → c .before .before .before .before .before .before .before .before .loop .i < length (c .before .before .before .before .before .before .before .before .before .before .before .before .before .before .before .before .before .args .records .now) / tetRule .size
@@ -72,7 +70,7 @@ mul-put-record c = omega (arith, below (c .before), c .before .before .before .b
 put-record-requires : tie.Need-put-record-requires Inv-loop μ-loop
 put-record-requires c κs =
     let d = c .before in
-    (omega (arith, d .if4 .left), (listed (d .before .before .tets-at .ensures), omega (arith, below d, d .before .before .before .before .before .before .before .before .loop .inv .laid .same)))
+    (omega (arith, d .if4 .left), (listed (d .before .before .before .before .before .before .before .next-cell .ensures .tets (not-false _ (d .before .before .before .before .before .if2 .left))), omega (arith, below d, d .before .before .before .before .before .before .before .before .loop .inv .laid .same)))
 
 add-i : tie.Need-add-i Inv-loop μ-loop
 add-i c = omega (arith, below (c .before .before .before .before), c .before .before .before .before .before .before .before .before .before .before .before .before .before .before .before .before .before .before .before .before .before .good .1 .1 .1 .1 .1 .1 .1 .1 .1 .0 .0)
@@ -83,13 +81,13 @@ loop-less c = omega (arith, below (c .before .before .before .before))
 loop-again : tie.Need-loop-again Inv-loop μ-loop
 loop-again c =
     let d = c .before .before .before .before in
-    let a = d .before .before .before .before .before .before .before .before .before .before .before .before .before .before .before .before .before .args in
-    let t = d .before .before .tets-at .ensures in
-    come-on _ (d .before .before .before .before .before .before .before .before .loop .inv) (d .before .before .before .before .before .before .before .next-cell .ensures) (not-false _ (d .before .before .before .before .before .if2 .left)) (below d)
-    (fits-few (a .coords .now) (a .labels .now) (a .parts .now) _ t (omega (arith, d .if4 .left)))
-    (laid-as (c .before .before .put-record .ensures) (record-is (a .coords .now) (a .labels .now) (a .parts .now) _ t (omega (arith, d .if4 .left))))
+    let y = not-false _ (d .before .before .before .before .before .if2 .left) in
+    let s = d .before .before .before .before .before .before .before .next-cell .ensures in
+    come-on _ (d .before .before .before .before .before .before .before .before .loop .inv) s y (below d)
+    (fits-few _ _ (s .tets y) (omega (arith, d .if4 .left)))
+    (laid-as (c .before .before .put-record .ensures) (record-is _ _ (s .tets y) (omega (arith, d .if4 .left))))
 
 pub write-cells-spec : {M : Type 1} → statement M
 write-cells-spec =
     tie.close
-    (tie.spec Inv-loop μ-loop returns loop-holds next-cell-requires end-mark-requires same-length returns-2 same-length-2 returns-3 tets-at-requires same-length-3 returns-4 mul-put-record put-record-requires add-i loop-less loop-again)
+    (tie.spec Inv-loop μ-loop returns loop-holds next-cell-requires end-mark-requires same-length returns-2 same-length-2 returns-3 same-length-3 returns-4 mul-put-record put-record-requires add-i loop-less loop-again)

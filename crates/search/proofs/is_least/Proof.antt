@@ -19,15 +19,15 @@ base-of-requires c κs = search needs
 
 all-above-requires : tie.Need-all-above-requires
 all-above-requires c κs =
-    let z = c .before .before .before in
-    let l : length (z .args .t2) ≡ 8 = search needs in
+    let z = c .before .before .before .before in
+    let l : length (z .args .t3) ≡ 8 = search needs in
     let e = rows-in (z .args .kind) in
-    ((omega (arith, c .before .corners-of .ensures .1), omega arith), omega (arith, e, c .before .corners-of .ensures .0, c .base-of .ensures .0))
+    (z .pre, ((omega (arith, c .before .corners-of .ensures .1), omega arith), omega (arith, e, c .before .corners-of .ensures .0, c .base-of .ensures .0)))
 
 returns : tie.Need-returns
 returns c =
-    let a = c .before .before .before .before .args in
-    c .all-above .ensures ∙ ap₂ (aboveAll (a .t2)) (c .before .before .corners-of .ensures .0) (c .before .base-of .ensures .0) ∙ least-is (a .kind) (a .t2)
+    let a = c .before .before .before .before .before .args in
+    c .all-above .ensures ∙ ap₂ (aboveAll (a .t3)) (c .before .before .corners-of .ensures .0) (c .before .base-of .ensures .0) ∙ least-is (a .kind) (a .t3)
 
 pub is-least-spec : {M : Type 1} → statement M
 is-least-spec =

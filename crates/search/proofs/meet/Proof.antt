@@ -3,20 +3,26 @@ use Prim.Native.Nat.{_+_, _-_}
 use mathlib.Core.Logic.{inl, inr}
 use lib.ListN.{length, set}
 use native.Mathlib.Omega.{arith}
-use Rattle.search.specs.Prune.{fits}
-use Rattle.search.proofs.Scanning.{Onward, onward-none, onward-first, onward-second, met-none, met-here}
+use Rattle.levels.specs.Fits.{fits}
+use Rattle.search.proofs.Scanning.{Onward, onward-from, onward-first, onward-second, met-none, met-here}
 use borrow.Author.Needs.{needs}
 use Rattle.search.proofs.meet.Statement.{statement}
 use Rattle.search.proofs.meet.Tie as tie
 
 abbrev Inv-loop : tie.InvT-loop
-Inv-loop coords marks n one two t x d lo i₀ j₀ i j = Onward (λ v. fits coords marks x d (set t d v)) one two lo i j
+Inv-loop tables coords marks n one two t x d lo i₀ j₀ i j = Onward (λ v. fits coords marks x d (set t d v)) one two lo i j
 
 abbrev μ-loop : tie.MeasureT-loop
-μ-loop coords marks n one two t x d lo i₀ j₀ i j = (length one - i) + (length two - j)
+μ-loop tables coords marks n one two t x d lo i₀ j₀ i j = (length one - i) + (length two - j)
+
+enter-requires : tie.Need-enter-requires Inv-loop μ-loop
+enter-requires c κs = c .before .before .before .before .pre .1 .1 .1 .0
+
+enter-requires-2 : tie.Need-enter-requires-2 Inv-loop μ-loop
+enter-requires-2 c κs = c .before .before .before .before .before .pre .1 .1 .1 .1
 
 loop-holds : tie.Need-loop-holds Inv-loop μ-loop
-loop-holds c = onward-none
+loop-holds c = onward-from (c .before .enter .ensures) (c .enter2 .ensures)
 
 returns : tie.Need-returns Inv-loop μ-loop
 returns c = met-none (c .before .before .loop .inv) (inr (omega arith)) _
@@ -41,19 +47,19 @@ loop-less c = omega arith
 
 loop-again : tie.Need-loop-again Inv-loop μ-loop
 loop-again c =
-    let z = c .before .before .before .before .before .before .before .before .before in
-    onward-second (c .before .before .before .before .before .loop .inv) (z .pre .1 .1 .0) (z .pre .1 .1 .1) (c .if2 .taken)
+    let z = c .before .before .before .before .before .before .before .before .before .before .before .before in
+    onward-second (c .before .before .before .before .before .loop .inv) (z .pre .1 .1 .1 .0) (z .pre .1 .1 .1 .1) (c .if2 .taken)
 
 agree-requires : tie.Need-agree-requires Inv-loop μ-loop
-agree-requires c κs = let z = c .before .before .before .before .before .before .before .before .before in (z .pre .0, z .pre .1 .0)
+agree-requires c κs = let z = c .before .before .before .before .before .before .before .before .before .before .before .before in (z .pre .0, (z .pre .1 .0, z .pre .1 .1 .0))
 
 wide-requires : tie.Need-wide-requires Inv-loop μ-loop
 wide-requires c κs = search needs
 
 returns-2 : tie.Need-returns-2 Inv-loop μ-loop
 returns-2 c =
-    let z = c .before .before .before .before .before .before .before .before .before .before .before .before in
-    met-here (c .before .before .before .before .before .before .before .before .loop .inv) (z .pre .1 .1 .0) (z .pre .1 .1 .1) (c .before .before .agree .ensures) (z .args .n) (c .wide .ensures .0) (c .before .if3 .taken)
+    let z = c .before .before .before .before .before .before .before .before .before .before .before .before .before .before .before in
+    met-here (c .before .before .before .before .before .before .before .before .loop .inv) (z .pre .1 .1 .1 .0) (z .pre .1 .1 .1 .1) (c .before .before .agree .ensures) (omega arith) (z .args .n) (c .wide .ensures .0) (c .before .if3 .taken)
 
 add-i : tie.Need-add-i Inv-loop μ-loop
 add-i c = omega arith
@@ -63,8 +69,8 @@ loop-less-2 c = omega arith
 
 loop-again-2 : tie.Need-loop-again-2 Inv-loop μ-loop
 loop-again-2 c =
-    let z = c .before .before .before .before .before .before .before .before .before .before .before in
-    onward-first (c .before .before .before .before .before .before .before .loop .inv) (z .pre .1 .1 .0) (z .pre .1 .1 .1) (c .before .agree .ensures) (λ h. omega (arith, c .before .before .if2 .left)) (c .if3 .left)
+    let z = c .before .before .before .before .before .before .before .before .before .before .before .before .before .before in
+    onward-first (c .before .before .before .before .before .before .before .loop .inv) (z .pre .1 .1 .1 .0) (z .pre .1 .1 .1 .1) (c .before .agree .ensures) (λ h. omega (arith, c .before .before .if2 .left)) (c .if3 .left)
 
 returns-3 : tie.Need-returns-3 Inv-loop μ-loop
 returns-3 c = met-none (c .before .loop .inv) (inl (omega arith)) _
@@ -75,6 +81,8 @@ meet-spec =
     (tie.spec
     Inv-loop
     μ-loop
+    enter-requires
+    enter-requires-2
     loop-holds
     returns
     mul-v

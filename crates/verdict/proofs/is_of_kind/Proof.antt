@@ -1,5 +1,4 @@
 -- `verdict::is_of_kind` meets its contract. Assumes nothing.
-use mathlib.Core.Path.{sym, _∙_}
 use borrow.Author.Tests.{eq-eqb, ne-eqb}
 use lib.ListN.{length-take}
 use native.Mathlib.Omega.{arith}
@@ -14,7 +13,7 @@ is-hexahedron-requires : tie.Need-is-hexahedron-requires
 is-hexahedron-requires c κs = search needs
 
 returns : tie.Need-returns
-returns c = c .is-hexahedron .ensures ∙ sym (rw (eq-eqb _ _ (c .before .before .if1 .taken)))
+returns c = rw (eq-eqb _ _ (c .before .before .if1 .taken)) (c .is-hexahedron .ensures)
 
 slice-aggregate-is-prism : tie.Need-slice-aggregate-is-prism
 slice-aggregate-is-prism c = simp length-take (omega arith)
@@ -23,7 +22,7 @@ is-prism-requires : tie.Need-is-prism-requires
 is-prism-requires c κs = search needs
 
 returns-2 : tie.Need-returns-2
-returns-2 c = c .is-prism .ensures ∙ sym (rw (ne-eqb _ _ (c .before .before .before .if1 .left), eq-eqb _ _ (c .before .before .if2 .taken)))
+returns-2 c = rw (ne-eqb _ _ (c .before .before .before .if1 .left), eq-eqb _ _ (c .before .before .if2 .taken)) (c .is-prism .ensures)
 
 slice-aggregate-is-pyramid : tie.Need-slice-aggregate-is-pyramid
 slice-aggregate-is-pyramid c = simp length-take (omega arith)
@@ -32,7 +31,7 @@ is-pyramid-requires : tie.Need-is-pyramid-requires
 is-pyramid-requires c κs = search needs
 
 returns-3 : tie.Need-returns-3
-returns-3 c = c .is-pyramid .ensures ∙ sym (rw (ne-eqb _ _ (c .before .before .before .if1 .left), ne-eqb _ _ (c .before .before .if2 .left)))
+returns-3 c = rw (ne-eqb _ _ (c .before .before .before .if1 .left), ne-eqb _ _ (c .before .before .if2 .left)) (c .is-pyramid .ensures)
 
 pub is-of-kind-spec : {M : Type 1} → statement M
 is-of-kind-spec =

@@ -1,11 +1,10 @@
 -- `verdict::is_prism` meets its contract. Assumes nothing.
-use mathlib.Core.Path.{refl, _∙_}
+use mathlib.Core.Path.{refl}
 use Rattle.base.specs.Lists.{keep, spread}
-use Rattle.space.specs.Arrays.{meshOf}
 use Rattle.templates.specs.Tables.{prism}
 use Rattle.cells.specs.Cells.{inside, corner3}
 use Rattle.filling.specs.Filled.{low}
-use Rattle.verdict.proofs.Solid.{solid-is, prism-edged}
+use Rattle.verdict.proofs.Solid.{tells-cell, prism-edged}
 use borrow.Author.Needs.{needs}
 use Rattle.verdict.proofs.is_prism.Statement.{statement}
 use Rattle.verdict.proofs.is_prism.Tie as tie
@@ -29,7 +28,7 @@ is-solid-requires c κs = (c .before .before .before .before .before .before .be
 returns : tie.Need-returns
 returns c =
     let s = c .before .before .before .before .before .before .before .before .before .before in
-    c .is-solid .ensures ∙ solid-is (meshOf (s .args .coords .now) (s .args .labels .now) (s .args .parts .now)) prism (s .args .c .now) prism-edged
+    tells-cell (s .args .coords .now) (s .args .labels .now) (s .args .parts .now) prism (s .args .c .now) prism-edged (c .is-solid .ensures)
 
 pub is-prism-spec : {M : Type 1} → statement M
 is-prism-spec =

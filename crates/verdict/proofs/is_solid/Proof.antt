@@ -1,14 +1,15 @@
 -- `verdict::is_solid` meets its contract. Assumes nothing.
-use mathlib.Core.Path.{_∙_, ap}
+use mathlib.Core.Path.{refl, _∙_, ap}
 use mathlib.Core.List.{[]}
 use lib.Dec.{eqb}
 use Rattle.base.proofs.Bools.{first-fails, second-fails, third-decides}
 use Rattle.space.specs.Arrays.{meshOf}
 use Rattle.cells.specs.Cells.{isFilled, isOnePart}
-use Rattle.cells.specs.Rows.{tabled}
+use Rattle.cells.specs.Rows.{tabled, quadsOf}
 use Rattle.verdict.specs.Judged.{isSolid}
 use Rattle.verdict.proofs.Bare.{tuple-is, sound-is, last-is}
-use Rattle.verdict.proofs.Solid.{last-two}
+use Rattle.verdict.proofs.Numbers.{found-same}
+use Rattle.verdict.proofs.Solid.{last-two, tells-no}
 use borrow.Author.Needs.{needs}
 use Rattle.verdict.proofs.is_solid.Statement.{statement}
 use Rattle.verdict.proofs.is_solid.Tie as tie
@@ -16,36 +17,50 @@ use Rattle.verdict.proofs.is_solid.Tie as tie
 is-tuple-requires : tie.Need-is-tuple-requires
 is-tuple-requires c κs = search needs
 
+no-requires : tie.Need-no-requires
+no-requires c κs = search needs
+
 returns : tie.Need-returns
 unfolding isSolid
 returns c =
-    let s = c .before .before .before .before .before .before .before .before .before .before .before in
-    first-fails (c .before .is-tuple .ensures ∙ tuple-is (s .args .coords .now) (s .args .labels .now) (s .args .parts .now) (s .args .corners) [] (s .args .triangles .now) (s .args .quads .now) (s .args .triples .now) (s .args .c .now)) (c .if1 .taken) _ _
+    let s = c .before .before .before .before .before .before .before .before .before .before .before .before in
+    tells-no (c .no .ensures) (first-fails (c .before .before .is-tuple .ensures ∙ tuple-is (s .args .coords .now) (s .args .labels .now) (s .args .parts .now) (s .args .corners) [] (s .args .triangles .now) (s .args .quads .now) (s .args .triples .now) (s .args .c .now)) (c .before .if1 .taken) _ _)
 
 is-sound-requires : tie.Need-is-sound-requires
 is-sound-requires c κs = search needs
 
+no-requires-2 : tie.Need-no-requires-2
+no-requires-2 c κs = search needs
+
 returns-2 : tie.Need-returns-2
 unfolding isSolid
 returns-2 c =
-    let s = c .before .before .before .before .before .before .before .before .before .before .before .before .before in
-    second-fails (c .before .before .before .is-tuple .ensures ∙ tuple-is (s .args .coords .now) (s .args .labels .now) (s .args .parts .now) (s .args .corners) [] (s .args .triangles .now) (s .args .quads .now) (s .args .triples .now) (s .args .c .now)) (c .before .before .if1 .left)
-    (c .before .is-sound .ensures ∙ sound-is (s .args .coords .now) (s .args .labels .now) (s .args .parts .now) (s .args .corners) [] (s .args .triangles .now) (s .args .quads .now) (s .args .triples .now) (s .args .c .now)) (c .if2 .taken) _
+    let s = c .before .before .before .before .before .before .before .before .before .before .before .before .before .before in
+    tells-no (c .no2 .ensures)
+    (second-fails (c .before .before .before .before .is-tuple .ensures ∙ tuple-is (s .args .coords .now) (s .args .labels .now) (s .args .parts .now) (s .args .corners) [] (s .args .triangles .now) (s .args .quads .now) (s .args .triples .now) (s .args .c .now)) (c .before .before .before .if1 .left)
+    (c .before .before .is-sound .ensures ∙ sound-is (s .args .coords .now) (s .args .labels .now) (s .args .parts .now) (s .args .corners) [] (s .args .triangles .now) (s .args .quads .now) (s .args .triples .now) (s .args .c .now)) (c .before .if2 .taken) _)
 
-judge-tets-requires : tie.Need-judge-tets-requires
-judge-tets-requires c κs = search needs
+find-requires : tie.Need-find-requires
+find-requires c κs = search needs
+
+judge-found-requires : tie.Need-judge-found-requires
+judge-found-requires c κs = (c .find .ensures, (search needs, search needs))
 
 returns-3 : tie.Need-returns-3
 unfolding isSolid
 returns-3 c =
-    let s = c .before .before .before .before .before .before .before .before .before .before .before .before .before .before in
+    let s = c .before .before .before .before .before .before .before .before .before .before .before .before .before .before .before in
     let m = meshOf (s .args .coords .now) (s .args .labels .now) (s .args .parts .now) in
     let t = tabled (s .args .corners) [] (s .args .triangles .now) (s .args .quads .now) (s .args .triples .now) in
-    third-decides (c .before .before .before .before .is-tuple .ensures ∙ tuple-is (s .args .coords .now) (s .args .labels .now) (s .args .parts .now) (s .args .corners) [] (s .args .triangles .now) (s .args .quads .now) (s .args .triples .now) (s .args .c .now)) (c .before .before .before .if1 .left)
-    (c .before .before .is-sound .ensures ∙ sound-is (s .args .coords .now) (s .args .labels .now) (s .args .parts .now) (s .args .corners) [] (s .args .triangles .now) (s .args .quads .now) (s .args .triples .now) (s .args .c .now)) (c .before .if2 .left)
-    (ap (λ v. eqb v 0) (c .judge-tets .ensures ∙ last-is (s .args .coords .now) (s .args .labels .now) (s .args .parts .now) (s .args .corners) [] (s .args .triangles .now) (s .args .quads .now) (s .args .triples .now) (s .args .c .now) (s .args .within .now) (s .pre .1 .0)) ∙ last-two (isFilled m t (s .args .c .now)) (isOnePart m t (s .args .c .now)))
+    record {
+      is =
+          third-decides (c .before .before .before .before .before .is-tuple .ensures ∙ tuple-is (s .args .coords .now) (s .args .labels .now) (s .args .parts .now) (s .args .corners) [] (s .args .triangles .now) (s .args .quads .now) (s .args .triples .now) (s .args .c .now)) (c .before .before .before .before .if1 .left)
+          (c .before .before .before .is-sound .ensures ∙ sound-is (s .args .coords .now) (s .args .labels .now) (s .args .parts .now) (s .args .corners) [] (s .args .triangles .now) (s .args .quads .now) (s .args .triples .now) (s .args .c .now)) (c .before .before .if2 .left)
+          (ap (λ v. eqb v 0) (c .judge-found .ensures ∙ last-is (s .args .coords .now) (s .args .labels .now) (s .args .parts .now) (s .args .corners) [] (s .args .triangles .now) (s .args .quads .now) (s .args .triples .now) (s .args .c .now) (s .args .within .now) (s .pre .1 .0)) ∙ last-two (isFilled m t (s .args .c .now)) (isOnePart m t (s .args .c .now)));
+      tets = λ y. found-same (s .args .coords .now) (s .args .labels .now) (s .args .parts .now) (s .args .c .now) (quadsOf (s .args .quads .now)) t refl (c .before .find .ensures);
+    }
 
 pub is-solid-spec : {M : Type 1} → statement M
 is-solid-spec =
     tie.close
-    (tie.spec is-tuple-requires returns is-sound-requires returns-2 judge-tets-requires returns-3)
+    (tie.spec is-tuple-requires no-requires returns is-sound-requires no-requires-2 returns-2 find-requires judge-found-requires returns-3)

@@ -1,0 +1,114 @@
+-- The vertices of a facet stand in each other's rows of the neighbour table, and what looking through one row gives.
+-- Assumes nothing.
+use Prim.Native.Nat.{ℕ, _+_, _-_, _*_, _/_, _≤_, _<_}
+use mathlib.Core.Path.{_≡_, refl, sym, _∙_, subst}
+use mathlib.Core.Logic.{_⊎_, inl, inr, ⊎-elim}
+use mathlib.Core.Bool.{Bool, true, false, not, _&&_}
+use mathlib.Core.List.{List, [], _∷_, List·Memᴰ}
+use native.Mathlib.Omega.{arith}
+use borrow.Author.Tests.{ltb-true, lt-ltb, eqb-true, eqb-false, ne-eqb, not-true}
+use lib.Dec.{eqb, ltb}
+use lib.ListN.{length, getD, take, drop, length-drop}
+use lib.Seq.{length-take-le, getD-take, getD-drop}
+use Rattle.base.specs.Lists.{all, upTo, isIn}
+use Rattle.base.proofs.Lists.{both-left, both-right, all-at, any-at}
+use Rattle.base.proofs.Members.{map-at, from-at}
+use Rattle.templates.proofs.Tests.{any-from}
+use Rattle.space.specs.Mesh.{Mesh, Tetrahedron, holds, together}
+use Rattle.space.specs.Arrays.{row4, tetAt, meshOf}
+use Rattle.around.specs.Index.{Labelled}
+use Rattle.neighbours.specs.declared.Row.{Row}
+use Rattle.neighbours.specs.Reading.{RowOf}
+use Rattle.neighbours.proofs.Reading.{row-has}
+use Rattle.ahead.specs.declared.Bar.{Bar}
+use Rattle.ahead.specs.declared.Linking.{Linking}
+use Rattle.ahead.specs.Ahead.{Lent, mayLink, Links, Closes, Beside, Only, Least, ByRow, NotedAt, Faces}
+use Rattle.ahead.specs.Adds.{LinkAt}
+use Rattle.ahead.proofs.Least.{least-of, least-then}
+
+-- ── a facet ──
+
+module _ {ls : List ℕ} {n : ℕ} (w : Labelled ls n) where
+  all-below : (i : ℕ) → i < length ls / 4 → all (λ y. ltb y n) (row4 ls i) ≡ true
+  all-below i h =
+      let f : (k : ℕ) → k < 4 * i + 4 → ltb (getD ls k 0) n ≡ true = λ k l. lt-ltb _ n (w .below k (omega (arith, w .whole))) in
+      rw (f (4 * i) (omega arith), f (4 * i + 1) (omega arith), f (4 * i + 2) (omega arith), f (4 * i + 3) (omega arith))
+
+  -- a vertex of a tetrahedron is below n
+  held-below : (e : Tetrahedron) → List·Memᴰ e (meshOf [] ls [] .tets) → (v : ℕ) → isIn v (e .vertices) ≡ true → v < n
+  held-below e m v h =
+      let i = map-at (tetAt ls []) (upTo (length ls / 4)) m in
+      let x = any-at (eqb v) (row4 ls (i .0)) (subst (λ t. isIn v (t .vertices) ≡ true) (i .2) h) in
+      let l = ltb-true (x .0) n (all-at (λ y. ltb y n) (row4 ls (i .0)) (all-below (i .0) (omega (arith, from-at 0 (length ls / 4) (i .1) .1))) (x .1)) in
+      omega (arith, l, eqb-true v (x .0) (x .2))
+
+-- ── a row ──
+
+-- v stands in the list
+abbrev In : ℕ → List ℕ → Type 0
+In v xs = (i : ℕ) × (i < length xs) × (getD xs i 0 ≡ v)
+
+by-in : {asked : ℕ → ℕ → Type 0} {y v : ℕ} {row : List ℕ} → In y row → asked y v → ByRow asked row (length row) v
+by-in i a = record { place = i .0; before = i .1; asks = rw (i .2) a }
+
+-- the entries of a row of the table
+abbrev entriesOf : List ℕ → Row → List ℕ
+entriesOf table r = take (r .from + r .size - r .from) (drop (r .from) table)
+
+-- every neighbour stands among the entries
+pub entries-have : {m : Mesh} {n : ℕ} {table : List ℕ} {a v : ℕ} {r : Row} → RowOf m n table a r → a < n → v < n → eqb a v ≡ false → together m (a ∷ v ∷ []) ≡ true → In v (entriesOf table r)
+entries-have {m} {n} {table} {a} {v} {r} w l h z t =
+    let f = row-has m n a v h z t in
+    let b : f .0 < r .size = omega (arith, f .1, w .whole l) in
+    let k = r .from + r .size - r .from in (
+      f .0,
+      omega (arith, length-take-le k (drop (r .from) table) (omega (arith, w .inside, length-drop (r .from) table))),
+      getD-take k (drop (r .from) table) (f .0) 0 (omega arith) ∙ getD-drop (r .from) table (f .0) 0 ∙ w .entries l (f .0) b ∙ f .2,
+    )
+
+-- the row of one of two vertices lies within the table
+pub row-inside : {m : Mesh} {n : ℕ} {table : List ℕ} {u x : ℕ} {r : Row} → RowOf m n table u r ⊎ RowOf m n table x r → r .from + r .size ≤ length table
+row-inside w = ⊎-elim (λ y. y .inside) (λ y. y .inside) w
+
+module _ {ls : List ℕ} {n : ℕ} {table ms : List ℕ} (g : Lent ls n table ms) where
+  -- two vertices of one tetrahedron: the one stands in the other's row
+  in-row : (e : Tetrahedron) → List·Memᴰ e (meshOf [] ls [] .tets) → (a v : ℕ) {r : Row} → isIn a (e .vertices) ≡ true → isIn v (e .vertices) ≡ true → eqb v a ≡ false → RowOf (meshOf [] ls []) n table a r → In v (entriesOf table r)
+  unfolding together
+  in-row e m a v p q z w =
+      let small = held-below (g .labelled) e m in
+      entries-have w (small a p) (small v q) (ne-eqb a v (λ y. eqb-false v a z (sym y))) (any-from (holds (a ∷ v ∷ [])) (meshOf [] ls [] .tets) m (rw (p, q)))
+
+  module _ {u x : ℕ} {r : Row} (w : RowOf (meshOf [] ls []) n table u r ⊎ RowOf (meshOf [] ls []) n table x r) where
+    abbrev row : List ℕ
+    row = entriesOf table r
+
+    -- of a facet's vertices, the third stands in the row of each of the others
+    third-in : (v : ℕ) → together (meshOf [] ls []) (u ∷ x ∷ v ∷ []) ≡ true → eqb v u ≡ false → eqb v x ≡ false → In v row
+    unfolding together
+    third-in v t p q =
+        let f = any-at (holds (u ∷ x ∷ v ∷ [])) (meshOf [] ls [] .tets) t in
+        let e = f .0 in
+        let h = both-right (isIn u (e .vertices)) _ (f .2) in
+        let i = both-left (isIn v (e .vertices)) _ (both-right (isIn x (e .vertices)) _ h) in
+        ⊎-elim (in-row e (f .1) u v (both-left (isIn u (e .vertices)) _ (f .2)) i p) (in-row e (f .1) x v (both-left (isIn x (e .vertices)) _ h) i q) w
+
+    -- a vertex that links x and another at u stands there too
+    link-in : {b : Bar} {v y : ℕ} → Links ls b u x v y → In y row
+    unfolding mayLink
+    link-in {b} {v} {y} l =
+        let f = both-left (not (eqb y u) && not (eqb y x)) _ (l .may) in
+        third-in y (l .near) (not-true _ (both-left (not (eqb y u)) _ f)) (not-true _ (both-right (not (eqb y u)) _ f))
+
+    -- what going through the row leaves out is not asked for
+    pub faces-least : {lo best b c : ℕ} → Least (λ y. y ≡ x) lo best b → Least (ByRow (NotedAt ms u x) row (length row)) lo b c → Least (Faces ls u x) lo best c
+    faces-least p q = least-then p q (λ v f. go v f (eqb v x) refl)
+      where
+        go : (v : ℕ) → Faces ls u x v → (t : Bool) → eqb v x ≡ t → (v ≡ x) ⊎ ByRow (NotedAt ms u x) row (length row) v
+        go v f true e = inl (eqb-true v x e)
+        go v f false e = inr (by-in (third-in v (f .facet) (f .new) e) (record { same = refl; mark = g .marked .facets u x v (f .facet) }))
+
+    pub closes-least : {b : Bar} {lo best c : ℕ} → Least (ByRow (Beside ls b u x) row (length row)) lo best c → Least (Closes ls b u x) lo best c
+    closes-least a = least-of a (λ v c. by-in (link-in (c .by .links)) (c .by))
+
+    pub links-only : {b : Bar} {v : ℕ} {s : Linking} → Only (ByRow (LinkAt ls b u x v) row (length row)) s → Only (Links ls b u x v) s
+    links-only a y l = a y (by-in (link-in l) (record { same = refl; links = l }))

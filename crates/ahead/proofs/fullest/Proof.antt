@@ -1,0 +1,94 @@
+-- `ahead::fullest` meets its contract. Assumes nothing.
+use mathlib.Core.Path.{_≡_, refl}
+use Prim.Native.Nat.{_-_}
+use native.Mathlib.Omega.{arith}
+use lib.ListN.{length}
+use Rattle.ahead.proofs.Entries.{row-inside}
+use borrow.Author.Needs.{needs}
+use Rattle.ahead.proofs.fullest.Statement.{statement}
+use Rattle.ahead.proofs.fullest.Tie as tie
+
+abbrev Inv-loop : tie.InvT-loop
+Inv-loop labels n table marks u w from end part p₀ k₀ p k = k ≡ k
+
+abbrev μ-loop : tie.MeasureT-loop
+μ-loop labels n table marks u w from end part p₀ k₀ p k = length part - k
+
+shorter-requires : tie.Need-shorter-requires Inv-loop μ-loop
+shorter-requires c κs = c .before .before .before .pre
+
+returns : tie.Need-returns Inv-loop μ-loop
+returns c = search needs
+
+add-end : tie.Need-add-end Inv-loop μ-loop
+add-end c = omega (arith, row-inside (c .before .before .before .shorter .ensures))
+
+mul-part : tie.Need-mul-part Inv-loop μ-loop
+mul-part c = omega (arith, row-inside (c .before .before .before .shorter .ensures))
+
+sub-part : tie.Need-sub-part Inv-loop μ-loop
+sub-part c = omega arith
+
+part-part-start : tie.Need-part-part-start Inv-loop μ-loop
+part-part-start c = omega arith
+
+part-part-end : tie.Need-part-part-end Inv-loop μ-loop
+part-part-end c = omega (arith, row-inside (c .before .before .before .shorter .ensures))
+
+loop-holds : tie.Need-loop-holds Inv-loop μ-loop
+loop-holds c = refl
+
+mul-t18 : tie.Need-mul-t18 Inv-loop μ-loop
+mul-t18 c = omega arith
+
+shared-slice-read-t22 : tie.Need-shared-slice-read-t22 Inv-loop μ-loop
+shared-slice-read-t22 c = omega arith
+
+is-noted-requires : tie.Need-is-noted-requires Inv-loop μ-loop
+is-noted-requires c κs = omega arith
+
+mul-t24 : tie.Need-mul-t24 Inv-loop μ-loop
+mul-t24 c = omega arith
+
+shared-slice-read-t26 : tie.Need-shared-slice-read-t26 Inv-loop μ-loop
+shared-slice-read-t26 c = omega arith
+
+fuller-requires : tie.Need-fuller-requires Inv-loop μ-loop
+fuller-requires c κs = c .before .before .before .before .before .before .before .before .before .before .before .before .before .before .pre
+
+add-k : tie.Need-add-k Inv-loop μ-loop
+add-k c = omega arith
+
+loop-less : tie.Need-loop-less Inv-loop μ-loop
+loop-less c = omega arith
+
+loop-again : tie.Need-loop-again Inv-loop μ-loop
+loop-again c = refl
+
+returns-2 : tie.Need-returns-2 Inv-loop μ-loop
+returns-2 c = search needs
+
+pub fullest-spec : {M : Type 1} → statement M
+fullest-spec =
+    tie.close
+    (tie.spec
+    Inv-loop
+    μ-loop
+    shorter-requires
+    returns
+    add-end
+    mul-part
+    sub-part
+    part-part-start
+    part-part-end
+    loop-holds
+    mul-t18
+    shared-slice-read-t22
+    is-noted-requires
+    mul-t24
+    shared-slice-read-t26
+    fuller-requires
+    add-k
+    loop-less
+    loop-again
+    returns-2)

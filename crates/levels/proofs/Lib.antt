@@ -1,0 +1,4 @@
+pub mod Entries
+pub mod Fresh
+pub mod Right
+pub mod Following

@@ -1,0 +1,29 @@
+-- `levels::tries` meets its contract. Assumes nothing.
+use mathlib.Core.Path.{_≡_}
+use lib.ListN.{length, length-set}
+use native.Mathlib.Omega.{arith}
+use borrow.Author.Needs.{needs}
+use Rattle.levels.proofs.tries.Statement.{statement}
+use Rattle.levels.proofs.tries.Tie as tie
+
+mul-s : tie.Need-mul-s
+mul-s c = search needs
+
+array-write-s : tie.Need-array-write-s
+array-write-s c = search needs
+
+slice-aggregate-passes : tie.Need-slice-aggregate-passes
+slice-aggregate-passes c = search needs
+
+passes-requires : tie.Need-passes-requires
+passes-requires c κs =
+    let z = c .before .before .before in
+    let l : length (z .args .t) ≡ 8 = search needs in
+    let e = length-set (z .args .t) (z .args .d) (z .args .v .0) in
+    (z .pre .0, (z .pre .1 .0, (omega (arith, e), omega (arith, e))))
+
+returns : tie.Need-returns
+returns c = c .passes .ensures
+
+pub tries-spec : {M : Type 1} → statement M
+tries-spec = tie.close (tie.spec mul-s array-write-s slice-aggregate-passes passes-requires returns)

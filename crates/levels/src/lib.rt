@@ -1,0 +1,601 @@
+// The levels of the search: at each place of each kind, what a tuple must pass there for a cell to go on, as rows of constant tables.
+// A tuple is kept in search order; x is the row of a place, and the tables are lent as one slice, since each mention of a constant table makes it anew.
+use cells::is_sound;
+use marks::faces_noted;
+use space::Vertex;
+use templates::is_in;
+ghost use mathlib.Core.Path.{_≡_};
+ghost use mathlib.Core.List.{List, []};
+ghost use Prim.Native.Nat.{_+_, _<_, _≤_};
+ghost use lib.Dec.{ltb};
+ghost use lib.ListN.{length, getD, set};
+ghost use Rattle.base.specs.Lists.{all, upTo};
+ghost use Rattle.space.specs.Arrays.{meshOf, Close};
+ghost use Rattle.cells.specs.Cells.{isSound};
+ghost use Rattle.cells.specs.Rows.{tabled};
+ghost use Rattle.marks.specs.Marks.{facesNoted};
+ghost use Rattle.levels.specs.Levels.{lesser, joined, also, third, look, part, levelOf, levels, Cut};
+ghost use Rattle.levels.specs.Fits.{comesAfter, fits};
+
+const LEVELS: [u8; 380] = [
+    // triangles
+    0,
+    1,
+    2,
+    3,
+    4,
+    5,
+    0,
+    1,
+    4,
+    1,
+    2,
+    4,
+    2,
+    3,
+    4,
+    0,
+    3,
+    4,
+    // quadrilaterals
+    0,
+    1,
+    4,
+    2,
+    0,
+    1,
+    5,
+    3,
+    0,
+    2,
+    6,
+    3,
+    3,
+    5,
+    7,
+    6,
+    2,
+    4,
+    7,
+    6,
+    1,
+    4,
+    7,
+    5,
+    0,
+    1,
+    4,
+    3,
+    4,
+    5,
+    2,
+    1,
+    0,
+    2,
+    5,
+    3,
+    0,
+    1,
+    2,
+    3,
+    // corner triples
+    0,
+    1,
+    2,
+    3,
+    1,
+    4,
+    0,
+    5,
+    2,
+    0,
+    4,
+    6,
+    3,
+    6,
+    5,
+    0,
+    4,
+    2,
+    1,
+    7,
+    5,
+    3,
+    7,
+    1,
+    7,
+    5,
+    6,
+    4,
+    6,
+    7,
+    3,
+    2,
+    0,
+    1,
+    2,
+    3,
+    1,
+    2,
+    0,
+    4,
+    2,
+    0,
+    1,
+    5,
+    3,
+    5,
+    4,
+    0,
+    4,
+    3,
+    5,
+    1,
+    5,
+    4,
+    3,
+    2,
+    0,
+    1,
+    3,
+    4,
+    1,
+    2,
+    0,
+    4,
+    2,
+    3,
+    1,
+    4,
+    3,
+    0,
+    2,
+    4,
+    // where the triangles of each row begin
+    0,
+    0,
+    0,
+    0,
+    0,
+    0,
+    0,
+    0,
+    0,
+    0,
+    0,
+    3,
+    3,
+    3,
+    6,
+    6,
+    6,
+    6,
+    6,
+    18,
+    // the quadrilaterals
+    18,
+    18,
+    18,
+    18,
+    18,
+    22,
+    26,
+    30,
+    42,
+    42,
+    42,
+    42,
+    42,
+    46,
+    54,
+    54,
+    54,
+    54,
+    58,
+    58,
+    // and the corner triples
+    58,
+    58,
+    58,
+    58,
+    62,
+    62,
+    66,
+    74,
+    90,
+    90,
+    90,
+    90,
+    94,
+    98,
+    114,
+    114,
+    114,
+    114,
+    114,
+    130,
+    // how many of the first places are lesser
+    0,
+    1,
+    2,
+    2,
+    1,
+    1,
+    1,
+    1,
+    0,
+    1,
+    1,
+    1,
+    1,
+    1,
+    0,
+    1,
+    1,
+    1,
+    0,
+    // the places that edges join to this one
+    0,
+    0,
+    0,
+    0,
+    1,
+    1,
+    2,
+    4,
+    0,
+    0,
+    0,
+    0,
+    1,
+    2,
+    0,
+    0,
+    1,
+    0,
+    0,
+    0,
+    0,
+    0,
+    0,
+    2,
+    3,
+    3,
+    5,
+    0,
+    0,
+    1,
+    0,
+    3,
+    3,
+    0,
+    0,
+    1,
+    2,
+    1,
+    0,
+    0,
+    0,
+    0,
+    2,
+    3,
+    3,
+    6,
+    0,
+    0,
+    1,
+    0,
+    3,
+    4,
+    0,
+    0,
+    1,
+    2,
+    2,
+    // the look-ahead
+    0,
+    0,
+    0,
+    0,
+    0,
+    0,
+    0,
+    0,
+    0,
+    0,
+    0,
+    0,
+    0,
+    1,
+    1,
+    0,
+    1,
+    1,
+    0,
+    2,
+    1,
+    0,
+    1,
+    2,
+    0,
+    0,
+    0,
+    0,
+    0,
+    0,
+    0,
+    0,
+    0,
+    0,
+    0,
+    0,
+    0,
+    0,
+    0,
+    0,
+    0,
+    0,
+    0,
+    0,
+    0,
+    0,
+    0,
+    0,
+    0,
+    0,
+    0,
+    0,
+    0,
+    0,
+    0,
+    0,
+    0,
+    0,
+    0,
+    0,
+    0,
+    0,
+    0,
+    0,
+    0,
+    0,
+    0,
+    2,
+    1,
+    0,
+    1,
+    2,
+    1,
+    2,
+    3,
+    3,
+    0,
+    0,
+    0,
+    0,
+    0,
+    0,
+    0,
+    0,
+    0,
+    0,
+    0,
+    0,
+    0,
+    0,
+    0,
+    0,
+    0,
+    0,
+    0,
+    0,
+    1,
+    0,
+    0,
+    1,
+    0,
+    0,
+    0,
+    1,
+    2,
+    2,
+    1,
+    0,
+    0,
+    0,
+    0,
+    0,
+    0,
+    0,
+];
+
+// Where the tables begin: of the rows of faces and corner triples they name the entries, which stand first.
+const TRIANGLES_AT: usize = 130;
+
+const QUADS_AT: usize = 150;
+
+const TRIPLES_AT: usize = 170;
+
+const LESSER: usize = 190;
+
+const JOINED: usize = 209;
+
+const ALSO: usize = 228;
+
+const THIRD: usize = 247;
+
+const AHEAD: usize = 266;
+
+// The tables, once for a search.
+pub fn tables() -> [u8; 380]
+    ensures { λ r. ⌜ r ≡ levels ⌝ }
+{
+    LEVELS
+}
+
+fn small(x: u8) -> usize
+    ensures { λ r. ⌜ r ≡ x ⌝ }
+{
+    x as usize
+}
+
+fn entry_of(table: &[u8], i: usize) -> usize
+    requires { ⌜ i < length (now table) ⌝ }
+    ensures { λ r. ⌜ r ≡ getD (now (table .entry)) i 0 ⌝ }
+{
+    small(table[i])
+}
+
+pub fn lesser_of(tables: &[u8], x: usize) -> usize
+    requires { ⌜ (now tables ≡ levels) × (x < 19) ⌝ }
+    ensures { λ r. ⌜ (r ≡ getD lesser x 0) × (r ≤ 2) ⌝ }
+{
+    entry_of(tables, LESSER + x)
+}
+
+pub fn joined_of(tables: &[u8], x: usize) -> usize
+    requires { ⌜ (now tables ≡ levels) × (x < 19) ⌝ }
+    ensures { λ r. ⌜ (r ≡ getD joined x 0) × (r < 8) ⌝ }
+{
+    entry_of(tables, JOINED + x)
+}
+
+pub fn also_of(tables: &[u8], x: usize) -> usize
+    requires { ⌜ (now tables ≡ levels) × (x < 19) ⌝ }
+    ensures { λ r. ⌜ (r ≡ getD also x 0) × (r < 8) ⌝ }
+{
+    entry_of(tables, ALSO + x)
+}
+
+pub fn third_of(tables: &[u8], x: usize) -> usize
+    requires { ⌜ (now tables ≡ levels) × (x < 19) ⌝ }
+    ensures { λ r. ⌜ (r ≡ getD third x 0) × (r < 8) ⌝ }
+{
+    entry_of(tables, THIRD + x)
+}
+
+// Entry i of the look-ahead's row x.
+pub fn look_of(tables: &[u8], x: usize, i: usize) -> usize
+    requires { ⌜ (now tables ≡ levels) × ((x < 19) × (i < 6)) ⌝ }
+    ensures { λ r. ⌜ (r ≡ look x i) × (r < 8) ⌝ }
+{
+    entry_of(tables, AHEAD + (6 * x + i))
+}
+
+// ---- the test of a level
+
+// The first entries, as many as asked, are below v.
+pub fn is_above(s: &[u16], count: usize, v: Vertex) -> bool
+    requires { ⌜ count ≤ length (now s) ⌝ }
+    ensures { λ r. ⌜ r ≡ all (λ k. ltb (getD (now (s .entry)) k 0) (v .0)) (upTo count) ⌝ }
+{
+    let y = v.0;
+    let mut k = 0;
+    while k < count {
+        if y <= s[k] {
+            return false;
+        }
+        k += 1;
+    }
+    true
+}
+
+// The vertex at place d is new, and above those that it must be above.
+fn comes_after(tables: &[u8], s: &[u16], x: usize, d: usize) -> bool
+    requires { ⌜ now tables ≡ levels ⌝ }
+    requires { ⌜ (x < 19) × ((d < length (now s)) × (2 ≤ length (now s))) ⌝ }
+    ensures { λ r. ⌜ r ≡ comesAfter x d (now (s .entry)) ⌝ }
+{
+    let v = s[d];
+    if is_in(v, &s[..d]) {
+        return false;
+    }
+    is_above(s, lesser_of(tables, x), Vertex(v))
+}
+
+// The boxes of a part of the corner triples are above 0.
+fn sound_part(coords: &[i64], s: &[u16], rows: &[u8], starts: &[u8], x: usize) -> bool
+    requires { ⌜ Close (now coords) × Cut (now rows) (now starts) x ⌝ }
+    ensures { λ r. ⌜ r ≡ isSound (meshOf (now (coords .entry)) [] []) (tabled 0 [] [] [] (part (now (rows .entry)) (now (starts .entry)) x)) (now (s .entry)) ⌝ }
+{
+    let from = entry_of(starts, x);
+    let end = entry_of(starts, x + 1);
+    is_sound(coords, s, &rows[from..end])
+}
+
+// The faces of a part of the tables may be faces of the mesh.
+fn faces_part(
+    marks: &[u8],
+    s: &[u16],
+    rows: &[u8],
+    triangles: &[u8],
+    quads: &[u8],
+    x: usize,
+) -> bool
+    requires { ⌜ length (now marks) ≡ 131072 ⌝ }
+    requires { ⌜ Cut (now rows) (now triangles) x × Cut (now rows) (now quads) x ⌝ }
+    ensures { λ r. ⌜ r ≡ facesNoted (now (marks .entry)) (tabled 0 [] (part (now (rows .entry)) (now (triangles .entry)) x) (part (now (rows .entry)) (now (quads .entry)) x) []) (now (s .entry)) ⌝ }
+{
+    let from = entry_of(triangles, x);
+    let end = entry_of(triangles, x + 1);
+    let low = entry_of(quads, x);
+    let high = entry_of(quads, x + 1);
+    faces_noted(marks, s, &rows[from..end], &rows[low..high])
+}
+
+fn sound_at(tables: &[u8], coords: &[i64], s: &[u16], x: usize) -> bool
+    requires { ⌜ (now tables ≡ levels) × (Close (now coords) × (x < 19)) ⌝ }
+    ensures { λ r. ⌜ r ≡ isSound (meshOf (now (coords .entry)) [] []) (levelOf x) (now (s .entry)) ⌝ }
+{
+    sound_part(coords, s, tables, &tables[TRIPLES_AT..LESSER], x)
+}
+
+fn faces_at(tables: &[u8], marks: &[u8], s: &[u16], x: usize) -> bool
+    requires { ⌜ (now tables ≡ levels) × ((length (now marks) ≡ 131072) × (x < 19)) ⌝ }
+    ensures { λ r. ⌜ r ≡ facesNoted (now (marks .entry)) (levelOf x) (now (s .entry)) ⌝ }
+{
+    faces_part(
+        marks,
+        s,
+        tables,
+        &tables[TRIANGLES_AT..QUADS_AT],
+        &tables[QUADS_AT..TRIPLES_AT],
+        x,
+    )
+}
+
+// The tuple passes the test of the level of place d: the cheap parts first.
+fn passes(tables: &[u8], coords: &[i64], marks: &[u8], s: &[u16], x: usize, d: usize) -> bool
+    requires { ⌜ now tables ≡ levels ⌝ }
+    requires { ⌜ Close (now coords) × (length (now marks) ≡ 131072) ⌝ }
+    requires { ⌜ (x < 19) × ((d < length (now s)) × (2 ≤ length (now s))) ⌝ }
+    ensures { λ r. ⌜ r ≡ fits (now (coords .entry)) (now (marks .entry)) x d (now (s .entry)) ⌝ }
+{
+    if !comes_after(tables, s, x, d) {
+        return false;
+    }
+    if !faces_at(tables, marks, s, x) {
+        return false;
+    }
+    sound_at(tables, coords, s, x)
+}
+
+// The tuple passes with v at place d.
+pub fn tries(
+    tables: &[u8],
+    coords: &[i64],
+    marks: &[u8],
+    t: [u16; 8],
+    x: usize,
+    d: usize,
+    v: Vertex,
+) -> bool
+    requires { ⌜ now tables ≡ levels ⌝ }
+    requires { ⌜ Close (now coords) × (length (now marks) ≡ 131072) ⌝ }
+    requires { ⌜ (x < 19) × (d < 8) ⌝ }
+    ensures { λ r. ⌜ r ≡ fits (now (coords .entry)) (now (marks .entry)) x d (set t d (v .0)) ⌝ }
+{
+    let mut s = t;
+    s[d] = v.0;
+    passes(tables, coords, marks, &s, x, d)
+}
