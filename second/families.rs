@@ -101,6 +101,18 @@ fn fans(dice: &mut Dice, i: usize) -> Draft {
     }
 }
 
+fn axes(dice: &mut Dice, i: usize) -> Draft {
+    let d = match i {
+        0 | 1 => poles(4, 60),
+        _ => poles(3 + dice.below(4), 3 + dice.below(12)),
+    };
+    match i % 3 {
+        0 => d,
+        1 => d.shuffled(dice),
+        _ => turned_round(d),
+    }
+}
+
 fn boundary(dice: &mut Dice, i: usize) -> Draft {
     let d = if i % 4 == 3 { slivered(dice) } else { capped(dice) };
     if dice.one_in(2) {
@@ -260,6 +272,7 @@ pub const FAMILIES: &[Family] = &[
     },
     Family { name: "hub", count: 20, make: |d, i| hubs(d, i).bytes() },
     Family { name: "fan", count: 30, make: |d, i| fans(d, i).bytes() },
+    Family { name: "poles", count: 30, make: |d, i| axes(d, i).bytes() },
     Family { name: "boundary", count: 250, make: |d, i| boundary(d, i).bytes() },
     Family { name: "parts", count: 200, make: |d, i| parts(d, i).bytes() },
     Family { name: "small", count: 24, make: |d, i| small(d, i).bytes() },
@@ -349,9 +362,16 @@ pub fn timed(seed: u64) -> Vec<(String, Draft)> {
     for ring in [30, 120, 510] {
         let d = fan(ring, true, 45_000.0);
         if d.all_stand() {
-            all.push((format!("fan-{}", ring), d));
+            all.push((format!("fan-{}", ring), d.clone()));
+        }
+        if ring == 510 {
+            all.push((format!("fan-last-{}", ring), turned_round(d)));
         }
     }
+    let d = poles(4, 200);
+    all.push(("poles-last-200".into(), turned_round(d.clone())));
+    all.push(("poles-shuffled-200".into(), d.shuffled(&mut dice)));
+    all.push(("poles-200".into(), d));
     all
 }
 

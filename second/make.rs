@@ -471,6 +471,25 @@ pub fn fan(ring: usize, closed: bool, radius: f64) -> Draft {
     d
 }
 
+// `count` points on an axis, and a tetrahedron for each two that follow each other and each edge of a ring of `ring` points round it.
+pub fn poles(count: usize, ring: usize) -> Draft {
+    let mut d = Draft::default();
+    for i in 0..count {
+        d.points.push([0, 0, -20_000 + (40_000 * i / (count - 1)) as i32]);
+    }
+    for k in 0..ring {
+        let side = 2.0 * std::f64::consts::PI * k as f64 / ring as f64;
+        d.points.push([(side.cos() * 45_000.0) as i32, (side.sin() * 45_000.0) as i32, 0]);
+    }
+    for i in 0..count - 1 {
+        for k in 0..ring {
+            let at = |k: usize| (count + k % ring) as u16;
+            d.add([i as u16, i as u16 + 1, at(k), at(k + 1)]);
+        }
+    }
+    d
+}
+
 // A cube of five tetrahedra, bent, with tetrahedra on the four corners of a face where that face
 // bulges, so that the face has its other diagonal outside.
 pub fn capped(dice: &mut Dice) -> Draft {
