@@ -138,6 +138,7 @@ fn search_kind(
     table: &[u16],
     kind: u16,
     mark: Mark,
+    told: bool,
 ) -> Found
     requires { ⌜ Ready (now coords) (now labels) n (now offsets) (now entries) (now marks) (now table) × (length (now parts) ≡ length (now labels) / 4) ⌝ }
     requires { ⌜ templateOf kind .kind ≡ kind ⌝ }
@@ -165,6 +166,7 @@ fn search_kind(
             table,
             kind,
             from,
+            told,
         );
     }
     next(
@@ -178,6 +180,7 @@ fn search_kind(
         table,
         kind,
         [0; 8],
+        false,
     )
 }
 
@@ -193,6 +196,7 @@ fn next_of(
     table: &[u16],
     kind: u16,
     mark: Mark,
+    told: bool,
 ) -> Step
     requires { ⌜ Ready (now coords) (now labels) n (now offsets) (now entries) (now marks) (now table) × (length (now parts) ≡ length (now labels) / 4) ⌝ }
     requires { ⌜ templateOf kind .kind ≡ kind ⌝ }
@@ -209,6 +213,7 @@ fn next_of(
         table,
         kind,
         mark,
+        told,
     );
     let t = x.tuple;
     let tets = x.tets;
@@ -230,6 +235,7 @@ fn next_cell(
     marks: &[u8],
     table: &[u16],
     mark: Mark,
+    told: bool,
 ) -> Step
     requires { ⌜ Ready (now coords) (now labels) n (now offsets) (now entries) (now marks) (now table) × (length (now parts) ≡ length (now labels) / 4) ⌝ }
     ensures { λ r. ⌜ Came (meshOf (now (coords .entry)) (now (labels .entry)) (now (parts .entry))) (markOf mark) (r .found) (markOf (r .mark)) (r .tets) ⌝ }
@@ -245,6 +251,7 @@ fn next_cell(
         table,
         8,
         mark,
+        told,
     );
     if x.found {
         return x;
@@ -260,6 +267,7 @@ fn next_cell(
         table,
         6,
         mark,
+        told,
     );
     if y.found {
         return y;
@@ -275,6 +283,7 @@ fn next_cell(
         table,
         5,
         mark,
+        told,
     )
 }
 
@@ -343,7 +352,18 @@ pub fn write_cells(
     let mut i: usize = 0;
     let mut k = mark;
     loop {
-        let s = next_cell(coords, labels, parts, n, offsets, entries, marks, table, k);
+        let s = next_cell(
+            coords,
+            labels,
+            parts,
+            n,
+            offsets,
+            entries,
+            marks,
+            table,
+            k,
+            0 < i,
+        );
         if !s.found {
             return Answer::Given {
                 count: i,

@@ -653,7 +653,8 @@ fn is_leaf(
 
 // ---- the search
 
-// The first place at which no cell goes on with the mark's entry, or the last.
+// The first place at which no cell goes on with the mark's entry, or the last. Where the mark is a cell that was told already, it is the last: then it
+// need not be looked for. That is a matter of speed alone.
 fn start(
     tables: &[u8],
     coords: &[i64],
@@ -665,12 +666,16 @@ fn start(
     table: &[u16],
     kind: u16,
     mark: [u16; 8],
+    told: bool,
 ) -> usize
     requires { ⌜ now tables ≡ levels ⌝ }
     requires { ⌜ Ready (now coords) (now labels) n (now offsets) (now entries) (now marks) (now table) ⌝ }
     ensures { λ r. ⌜ Begins (now (coords .entry)) (now (labels .entry)) kind mark r ⌝ }
 {
     let k = corners_of(kind);
+    if told {
+        return k - 1;
+    }
     let mut d = 0;
     while d + 1 < k {
         let v = wide(mark[d]);
@@ -710,6 +715,7 @@ fn next_by(
     table: &[u16],
     kind: u16,
     mark: [u16; 8],
+    told: bool,
 ) -> Found
     requires { ⌜ now tables ≡ levels ⌝ }
     requires { ⌜ Ready (now coords) (now labels) n (now offsets) (now entries) (now marks) (now table) × (length (now parts) ≡ length (now labels) / 4) ⌝ }
@@ -729,6 +735,7 @@ fn next_by(
         table,
         kind,
         mark,
+        told,
     );
     let mut lo = wide(t[d]) + 1;
     loop {
@@ -788,6 +795,7 @@ pub fn next(
     table: &[u16],
     kind: u16,
     mark: [u16; 8],
+    told: bool,
 ) -> Found
     requires { ⌜ Ready (now coords) (now labels) n (now offsets) (now entries) (now marks) (now table) × (length (now parts) ≡ length (now labels) / 4) ⌝ }
     ensures { λ r. ⌜ LeastAfter (templateOf kind .corners) (isLeaf (meshOf (now (coords .entry)) (now (labels .entry)) (now (parts .entry))) (templateOf kind)) mark (r .found) (r .tuple) ⌝ }
@@ -806,5 +814,6 @@ pub fn next(
         table,
         kind,
         mark,
+        told,
     )
 }

@@ -14,10 +14,10 @@ use Rattle.search.proofs.next_by.Statement.{statement}
 use Rattle.search.proofs.next_by.Tie as tie
 
 abbrev Inv-loop : tie.InvT-loop
-Inv-loop tables coords labels parts n offsets entries marks table kind k t₀ d₀ lo₀ t d lo = Open (templateOf kind .corners) (isLeaf (meshOf coords labels parts) (templateOf kind)) t₀ t d lo
+Inv-loop tables coords labels parts n offsets entries marks table kind told k t₀ d₀ lo₀ t d lo = Open (templateOf kind .corners) (isLeaf (meshOf coords labels parts) (templateOf kind)) t₀ t d lo
 
 abbrev μ-loop : tie.MeasureT-loop
-μ-loop tables coords labels parts n offsets entries marks table kind k t₀ d₀ lo₀ t d lo = left n k t d lo
+μ-loop tables coords labels parts n offsets entries marks table kind told k t₀ d₀ lo₀ t d lo = left n k t d lo
 
 corners-of-requires : tie.Need-corners-of-requires Inv-loop μ-loop
 corners-of-requires c κs = search needs
