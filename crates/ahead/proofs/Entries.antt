@@ -8,8 +8,7 @@ use mathlib.Core.List.{List, [], _∷_, List·Memᴰ}
 use native.Mathlib.Omega.{arith}
 use borrow.Author.Tests.{ltb-true, lt-ltb, eqb-true, eqb-false, ne-eqb, not-true}
 use lib.Dec.{eqb, ltb}
-use lib.ListN.{length, getD, take, drop, length-drop}
-use lib.Seq.{length-take-le, getD-take, getD-drop}
+use lib.ListN.{length, getD}
 use Rattle.base.specs.Lists.{all, upTo, isIn}
 use Rattle.base.proofs.Lists.{both-left, both-right, all-at, any-at}
 use Rattle.base.proofs.Members.{map-at, from-at}
@@ -18,8 +17,8 @@ use Rattle.space.specs.Mesh.{Mesh, Tetrahedron, holds, together}
 use Rattle.space.specs.Arrays.{row4, tetAt, meshOf}
 use Rattle.around.specs.Index.{Labelled}
 use Rattle.neighbours.specs.declared.Row.{Row}
-use Rattle.neighbours.specs.Reading.{RowOf}
-use Rattle.neighbours.proofs.Reading.{row-has}
+use Rattle.neighbours.specs.Reading.{RowOf, entriesOf}
+use Rattle.neighbours.proofs.Reading.{entries-have}
 use Rattle.ahead.specs.declared.Bar.{Bar}
 use Rattle.ahead.specs.declared.Linking.{Linking}
 use Rattle.ahead.specs.Ahead.{Lent, mayLink, Links, Closes, Beside, Only, Least, ByRow, NotedAt, Faces}
@@ -50,21 +49,6 @@ In v xs = (i : ℕ) × (i < length xs) × (getD xs i 0 ≡ v)
 
 by-in : {asked : ℕ → ℕ → Type 0} {y v : ℕ} {row : List ℕ} → In y row → asked y v → ByRow asked row (length row) v
 by-in i a = record { place = i .0; before = i .1; asks = rw (i .2) a }
-
--- the entries of a row of the table
-abbrev entriesOf : List ℕ → Row → List ℕ
-entriesOf table r = take (r .from + r .size - r .from) (drop (r .from) table)
-
--- every neighbour stands among the entries
-pub entries-have : {m : Mesh} {n : ℕ} {table : List ℕ} {a v : ℕ} {r : Row} → RowOf m n table a r → a < n → v < n → eqb a v ≡ false → together m (a ∷ v ∷ []) ≡ true → In v (entriesOf table r)
-entries-have {m} {n} {table} {a} {v} {r} w l h z t =
-    let f = row-has m n a v h z t in
-    let b : f .0 < r .size = omega (arith, f .1, w .whole l) in
-    let k = r .from + r .size - r .from in (
-      f .0,
-      omega (arith, length-take-le k (drop (r .from) table) (omega (arith, w .inside, length-drop (r .from) table))),
-      getD-take k (drop (r .from) table) (f .0) 0 (omega arith) ∙ getD-drop (r .from) table (f .0) 0 ∙ w .entries l (f .0) b ∙ f .2,
-    )
 
 -- the row of one of two vertices lies within the table
 pub row-inside : {m : Mesh} {n : ℕ} {table : List ℕ} {u x : ℕ} {r : Row} → RowOf m n table u r ⊎ RowOf m n table x r → r .from + r .size ≤ length table

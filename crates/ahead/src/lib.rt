@@ -11,7 +11,7 @@ ghost use mathlib.Core.List.{[], _∷_};
 ghost use Prim.Native.Nat.{_<_, _≤_};
 ghost use lib.ListN.{length};
 ghost use Rattle.space.specs.Arrays.{meshOf};
-ghost use Rattle.marks.specs.Marks.{noted};
+ghost use Rattle.marks.specs.Marks.{places, noted};
 ghost use Rattle.neighbours.specs.Reading.{RowOf};
 ghost use Rattle.ahead.specs.Adds.{Adds, LinkAt};
 ghost use Rattle.ahead.specs.Ahead.{Lent, mayLink, Closes, Links, Only, Least, Beside, ByRow, NotedAt, Faces};
@@ -82,7 +82,7 @@ fn may_link(bar: Bar, u: Vertex, w: Vertex, x: Vertex) -> bool
 
 // The first vertex from lo on that may make a facet with u and x, or best.
 fn next_noted(marks: &[u8], u: Vertex, x: Vertex, lo: usize, best: usize) -> usize
-    requires { ⌜ (length (now marks) ≡ 131072) × (best ≤ 512) ⌝ }
+    requires { ⌜ (length (now marks) ≡ places) × (best ≤ 512) ⌝ }
     ensures { λ r. ⌜ Least (λ v. noted (now (marks .entry)) (u .0) (x .0) v ≡ true) lo best r ⌝ }
 {
     let mut v = lo;
@@ -97,7 +97,7 @@ fn next_noted(marks: &[u8], u: Vertex, x: Vertex, lo: usize, best: usize) -> usi
 
 // y where it is from lo on, less than best, and may make a facet with u and x; and else best.
 fn noted_at(marks: &[u8], u: Vertex, x: Vertex, y: Vertex, lo: usize, best: usize) -> usize
-    requires { ⌜ length (now marks) ≡ 131072 ⌝ }
+    requires { ⌜ length (now marks) ≡ places ⌝ }
     ensures { λ r. ⌜ Least (NotedAt (now (marks .entry)) (u .0) (x .0) (y .0)) lo best r ⌝ }
 {
     let v = y.0 as usize;
@@ -112,7 +112,7 @@ fn noted_at(marks: &[u8], u: Vertex, x: Vertex, y: Vertex, lo: usize, best: usiz
 
 // The same for each entry of a row.
 fn noted_row(marks: &[u8], row: &[u16], u: Vertex, x: Vertex, lo: usize, best: usize) -> usize
-    requires { ⌜ length (now marks) ≡ 131072 ⌝ }
+    requires { ⌜ length (now marks) ≡ places ⌝ }
     ensures { λ r. ⌜ Least (ByRow (NotedAt (now (marks .entry)) (u .0) (x .0)) (now (row .entry)) (length (now (row .entry)))) lo best r ⌝ }
 {
     let mut b = best;

@@ -10,7 +10,7 @@ use lib.IntN.{ℤ, pos, negsuc}
 use lib.ListN.{length, getD}
 use lib.Signed.{ltZ, leZ}
 use borrow.Author.Tests.{le-ltb, lt-leb}
-use Rattle.base.specs.Lists.{any, upTo, isIn}
+use Rattle.base.specs.Lists.{any, upTo}
 use Rattle.base.proofs.Bools.{or-false, or-found, or-passes, and-left, and-right}
 use Rattle.space.specs.Box.{isAbove0}
 use Rattle.space.specs.Arrays.{row4, around}
@@ -98,12 +98,12 @@ opposite-none (negsuc k) y e f = absurd (false≢true (sym f))
 -- ---- a clash is found around any vertex of the facet
 
 module _ (zs : List ℤ) (ls : List ℕ) (e u a b c : ℕ) where
-  clash-held : (m : ℕ) → clashes zs ls e u a b c m ≡ true → isIn (fewest ls a b c) (row4 ls m) ≡ true
+  pub clash-has : (m : ℕ) → clashes zs ls e u a b c m ≡ true → hasAll ls (a ∷ b ∷ c ∷ []) m ≡ true
   unfolding clashes
-  clash-held m t =
+  clash-has m t =
       let f = any (astray zs u a b c) (row4 ls m) in
-      fewest-held ls a b c m (and-left _ f (and-right (not (eqb m e)) (hasAll ls (a ∷ b ∷ c ∷ []) m && f) t))
+      and-left _ f (and-right (not (eqb m e)) (hasAll ls (a ∷ b ∷ c ∷ []) m && f) t)
 
   pub clash-around : any (clashes zs ls e u a b c) (around ls (fewest ls a b c)) ≡ clashing zs ls e u a b c
   unfolding clashing
-  clash-around = any-around ls (fewest ls a b c) (clashes zs ls e u a b c) clash-held
+  clash-around = any-around ls (fewest ls a b c) (clashes zs ls e u a b c) (λ m t. fewest-held ls a b c m (clash-has m t))

@@ -1,7 +1,7 @@
 -- What is asked of the tetrahedra of a mesh in working arrays: refusals 5 to 9, and the first of them that applies.
 -- zs are the coordinates, three a vertex; ls the labels, four a tetrahedron; e and m are numbers of tetrahedra, a, b, c, u, v, w numbers of vertices.
 -- Assumes nothing.
-use Prim.Native.Nat.{ℕ, _+_, _*_, _/_, _≤_}
+use Prim.Native.Nat.{ℕ, _+_, _*_, _/_, _≤_, _<_}
 use mathlib.Core.Path.{_≡_}
 use mathlib.Core.Bool.{Bool, true, false, not, cond, _&&_, _||_}
 use mathlib.Core.List.{List, [], _∷_}
@@ -71,6 +71,11 @@ clashes zs ls e u a b c m =
 -- some tetrahedron clashes with e at the facet a, b, c, whose fourth vertex in e is u
 unfoldable pub clashing : List ℤ → List ℕ → ℕ → ℕ → ℕ → ℕ → ℕ → Bool
 clashing zs ls e u a b c = someTet ls (clashes zs ls e u a b c)
+
+-- r is true where m clashes and x is its number plus one, and true only where some tetrahedron clashes
+pub record Tries (zs : List ℤ) (ls : List ℕ) (e u a b c x : ℕ) (r : Bool) : Type 0 where
+  pub found : (m : ℕ) → m < length ls / 4 → x ≡ m + 1 → clashes zs ls e u a b c m ≡ true → r ≡ true
+  pub some : r ≡ true → clashing zs ls e u a b c ≡ true
 
 unfoldable pub folded : List ℤ → List ℕ → ℕ → Bool
 folded zs ls e = someFacet (clashing zs ls e) ls e

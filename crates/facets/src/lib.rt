@@ -3,6 +3,8 @@ use around::index;
 use around::rarest;
 use around::row_of;
 use around::sharing;
+use pairs::pair_of;
+use pairs::put_all;
 use space::Tet;
 use space::Vertex;
 use space::point_at;
@@ -10,7 +12,7 @@ use space::tet_has3;
 use space::volume;
 ghost use mathlib.Core.Path.{_≡_};
 ghost use mathlib.Core.List.{[], _∷_};
-ghost use mathlib.Core.Bool.{not};
+ghost use mathlib.Core.Bool.{true, not};
 ghost use Prim.Native.Nat.{_/_, _≤_, _<_};
 ghost use lib.Dec.{leb};
 ghost use lib.ListN.{length};
@@ -18,7 +20,8 @@ ghost use Rattle.base.specs.Lists.{any, upTo, distinct};
 ghost use Rattle.space.specs.Arrays.{Close, row4};
 ghost use Rattle.around.specs.Index.{Labelled, Indexed};
 ghost use Rattle.around.specs.Build.{Within};
-ghost use Rattle.facets.specs.Facets.{boxAt, opposite, outside, twice, flat, full, crowded, astray, clashes, clashing, folded, refused5, refused6, refused7, refused8, refused9, faultOf, Workable};
+ghost use Rattle.pairs.specs.Pairs.{Paired};
+ghost use Rattle.facets.specs.Facets.{boxAt, opposite, outside, twice, flat, full, crowded, astray, clashes, clashing, Tries, folded, refused5, refused6, refused7, refused8, refused9, faultOf, Workable};
 
 // The four vertices of a tetrahedron.
 fn corners(labels: &[u16], e: Tet) -> [u16; 4]
@@ -122,74 +125,58 @@ fn is_flat(coords: &[i64], labels: &[u16], e: Tet) -> bool
 
 // ---- 8
 
+// Three or more tetrahedra have the facet a, b, c: where two at most stand at its place, there are no more.
 fn is_full(
     labels: &[u16],
     n: usize,
     offsets: &[u16],
     entries: &[u16],
+    pairs: &[u16],
     u: Vertex,
     a: Vertex,
     b: Vertex,
     c: Vertex,
 ) -> bool
     requires { ⌜ Indexed (now labels) n (now offsets) (now entries) ⌝ }
+    requires { ⌜ Paired (now labels) (now pairs) ⌝ }
+    requires { ⌜ distinct (a .0 ∷ b .0 ∷ c .0 ∷ []) ≡ true ⌝ }
     ensures { λ r. ⌜ r ≡ full (now (labels .entry)) (u .0) (a .0) (b .0) (c .0) ⌝ }
 {
+    let pair = pair_of(labels, pairs, a, b, c);
+    if !pair.many {
+        return false;
+    }
     3 <= sharing(labels, n, offsets, entries, a, b, c)
 }
 
-fn is_crowded(labels: &[u16], n: usize, offsets: &[u16], entries: &[u16], e: Tet) -> bool
+fn is_crowded(
+    labels: &[u16],
+    n: usize,
+    offsets: &[u16],
+    entries: &[u16],
+    pairs: &[u16],
+    e: Tet,
+) -> bool
     requires { ⌜ Indexed (now labels) n (now offsets) (now entries) ⌝ }
+    requires { ⌜ Paired (now labels) (now pairs) ⌝ }
     requires { ⌜ e .0 < length (now labels) / 4 ⌝ }
     ensures { λ r. ⌜ r ≡ crowded (now (labels .entry)) (e .0) ⌝ }
 {
     let v = corners(labels, e);
-    if is_full(
-        labels,
-        n,
-        offsets,
-        entries,
-        Vertex(v[0]),
-        Vertex(v[1]),
-        Vertex(v[2]),
-        Vertex(v[3]),
-    ) {
+    let a = Vertex(v[0]);
+    let b = Vertex(v[1]);
+    let c = Vertex(v[2]);
+    let d = Vertex(v[3]);
+    if is_full(labels, n, offsets, entries, pairs, a, b, c, d) {
         return true;
     }
-    if is_full(
-        labels,
-        n,
-        offsets,
-        entries,
-        Vertex(v[1]),
-        Vertex(v[0]),
-        Vertex(v[2]),
-        Vertex(v[3]),
-    ) {
+    if is_full(labels, n, offsets, entries, pairs, b, a, c, d) {
         return true;
     }
-    if is_full(
-        labels,
-        n,
-        offsets,
-        entries,
-        Vertex(v[2]),
-        Vertex(v[0]),
-        Vertex(v[1]),
-        Vertex(v[3]),
-    ) {
+    if is_full(labels, n, offsets, entries, pairs, c, a, b, d) {
         return true;
     }
-    is_full(
-        labels,
-        n,
-        offsets,
-        entries,
-        Vertex(v[3]),
-        Vertex(v[0]),
-        Vertex(v[1]),
-        Vertex(v[2]),
-    )
+    is_full(labels, n, offsets, entries, pairs, d, a, b, c)
 }
 
 // ---- 9
@@ -300,7 +287,7 @@ fn any_clash(
 }
 
 // Some tetrahedron clashes with e at the facet a, b, c; it is looked for around the rarest of the three.
-fn is_clashing(
+fn clashes_around(
     coords: &[i64],
     labels: &[u16],
     n: usize,
@@ -323,74 +310,91 @@ fn is_clashing(
     any_clash(coords, labels, &entries[from..end], e, u, a, b, c)
 }
 
+// The tetrahedron whose number plus one is x clashes with e. There may be none.
+fn clashes_named(
+    coords: &[i64],
+    labels: &[u16],
+    e: Tet,
+    u: Vertex,
+    a: Vertex,
+    b: Vertex,
+    c: Vertex,
+    x: u16,
+) -> bool
+    requires { ⌜ Close (now coords) ⌝ }
+    ensures { λ r. ⌜ Tries (now (coords .entry)) (now (labels .entry)) (e .0) (u .0) (a .0) (b .0) (c .0) x r ⌝ }
+{
+    let t = labels.len() / 4;
+    if x == 0 {
+        return false;
+    }
+    let m = x - 1;
+    if t <= m as usize {
+        return false;
+    }
+    does_clash(coords, labels, e, u, a, b, c, Tet(m))
+}
+
+// Some tetrahedron clashes with e at the facet a, b, c: where two at most stand at its place, only those are tried.
+fn is_clashing(
+    coords: &[i64],
+    labels: &[u16],
+    n: usize,
+    offsets: &[u16],
+    entries: &[u16],
+    pairs: &[u16],
+    e: Tet,
+    u: Vertex,
+    a: Vertex,
+    b: Vertex,
+    c: Vertex,
+) -> bool
+    requires { ⌜ Close (now coords) ⌝ }
+    requires { ⌜ Indexed (now labels) n (now offsets) (now entries) ⌝ }
+    requires { ⌜ Paired (now labels) (now pairs) ⌝ }
+    requires { ⌜ distinct (a .0 ∷ b .0 ∷ c .0 ∷ []) ≡ true ⌝ }
+    ensures { λ r. ⌜ r ≡ clashing (now (coords .entry)) (now (labels .entry)) (e .0) (u .0) (a .0) (b .0) (c .0) ⌝ }
+{
+    let pair = pair_of(labels, pairs, a, b, c);
+    if pair.many {
+        return clashes_around(coords, labels, n, offsets, entries, e, u, a, b, c);
+    }
+    if clashes_named(coords, labels, e, u, a, b, c, pair.one) {
+        return true;
+    }
+    clashes_named(coords, labels, e, u, a, b, c, pair.two)
+}
+
 fn is_folded(
     coords: &[i64],
     labels: &[u16],
     n: usize,
     offsets: &[u16],
     entries: &[u16],
+    pairs: &[u16],
     e: Tet,
 ) -> bool
     requires { ⌜ Close (now coords) ⌝ }
     requires { ⌜ Indexed (now labels) n (now offsets) (now entries) ⌝ }
+    requires { ⌜ Paired (now labels) (now pairs) ⌝ }
     requires { ⌜ e .0 < length (now labels) / 4 ⌝ }
     ensures { λ r. ⌜ r ≡ folded (now (coords .entry)) (now (labels .entry)) (e .0) ⌝ }
 {
     let v = corners(labels, e);
-    if is_clashing(
-        coords,
-        labels,
-        n,
-        offsets,
-        entries,
-        e,
-        Vertex(v[0]),
-        Vertex(v[1]),
-        Vertex(v[2]),
-        Vertex(v[3]),
-    ) {
+    let a = Vertex(v[0]);
+    let b = Vertex(v[1]);
+    let c = Vertex(v[2]);
+    let d = Vertex(v[3]);
+    if is_clashing(coords, labels, n, offsets, entries, pairs, e, a, b, c, d) {
         return true;
     }
-    if is_clashing(
-        coords,
-        labels,
-        n,
-        offsets,
-        entries,
-        e,
-        Vertex(v[1]),
-        Vertex(v[0]),
-        Vertex(v[2]),
-        Vertex(v[3]),
-    ) {
+    if is_clashing(coords, labels, n, offsets, entries, pairs, e, b, a, c, d) {
         return true;
     }
-    if is_clashing(
-        coords,
-        labels,
-        n,
-        offsets,
-        entries,
-        e,
-        Vertex(v[2]),
-        Vertex(v[0]),
-        Vertex(v[1]),
-        Vertex(v[3]),
-    ) {
+    if is_clashing(coords, labels, n, offsets, entries, pairs, e, c, a, b, d) {
         return true;
     }
-    is_clashing(
-        coords,
-        labels,
-        n,
-        offsets,
-        entries,
-        e,
-        Vertex(v[3]),
-        Vertex(v[0]),
-        Vertex(v[1]),
-        Vertex(v[2]),
-    )
+    is_clashing(coords, labels, n, offsets, entries, pairs, e, d, a, b, c)
 }
 
 // ---- over all tetrahedra
@@ -441,14 +445,15 @@ fn any_flat(coords: &[i64], labels: &[u16]) -> bool
     false
 }
 
-fn any_crowded(labels: &[u16], n: usize, offsets: &[u16], entries: &[u16]) -> bool
+fn any_crowded(labels: &[u16], n: usize, offsets: &[u16], entries: &[u16], pairs: &[u16]) -> bool
     requires { ⌜ Indexed (now labels) n (now offsets) (now entries) ⌝ }
+    requires { ⌜ Paired (now labels) (now pairs) ⌝ }
     ensures { λ r. ⌜ r ≡ any (crowded (now (labels .entry))) (upTo (length (now (labels .entry)) / 4)) ⌝ }
 {
     let t = labels.len() / 4;
     let mut j = 0;
     while j < t {
-        if is_crowded(labels, n, offsets, entries, Tet(j as u16)) {
+        if is_crowded(labels, n, offsets, entries, pairs, Tet(j as u16)) {
             return true;
         }
         j += 1;
@@ -456,15 +461,23 @@ fn any_crowded(labels: &[u16], n: usize, offsets: &[u16], entries: &[u16]) -> bo
     false
 }
 
-fn any_folded(coords: &[i64], labels: &[u16], n: usize, offsets: &[u16], entries: &[u16]) -> bool
+fn any_folded(
+    coords: &[i64],
+    labels: &[u16],
+    n: usize,
+    offsets: &[u16],
+    entries: &[u16],
+    pairs: &[u16],
+) -> bool
     requires { ⌜ Close (now coords) ⌝ }
     requires { ⌜ Indexed (now labels) n (now offsets) (now entries) ⌝ }
+    requires { ⌜ Paired (now labels) (now pairs) ⌝ }
     ensures { λ r. ⌜ r ≡ any (folded (now (coords .entry)) (now (labels .entry))) (upTo (length (now (labels .entry)) / 4)) ⌝ }
 {
     let t = labels.len() / 4;
     let mut j = 0;
     while j < t {
-        if is_folded(coords, labels, n, offsets, entries, Tet(j as u16)) {
+        if is_folded(coords, labels, n, offsets, entries, pairs, Tet(j as u16)) {
             return true;
         }
         j += 1;
@@ -490,10 +503,12 @@ pub fn first_fault(coords: &[i64], labels: &[u16]) -> u8
     let mut offsets: [u16; 513] = [0; 513];
     let mut entries: [u16; 8192] = [0; 8192];
     index(labels, n, &mut offsets, &mut entries);
-    if any_crowded(labels, n, &offsets, &entries) {
+    let mut pairs: [u16; 65536] = [0; 65536];
+    put_all(labels, &mut pairs);
+    if any_crowded(labels, n, &offsets, &entries, &pairs) {
         return 8;
     }
-    if any_folded(coords, labels, n, &offsets, &entries) {
+    if any_folded(coords, labels, n, &offsets, &entries, &pairs) {
         return 9;
     }
     0

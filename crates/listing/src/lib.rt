@@ -12,6 +12,7 @@ ghost use Rattle.space.specs.Arrays.{meshOf};
 ghost use Rattle.layout.specs.Layout.{Framed, vertexPart, tetPart, coordsIn, labelsIn, partsIn};
 ghost use Rattle.mesh.specs.Check.{checked};
 ghost use Rattle.mesh.specs.declared.Checked.the-variants.{Accepted};
+ghost use Rattle.marks.specs.Marks.{places};
 ghost use Rattle.neighbours.specs.Reading.{Tabled};
 ghost use Rattle.records.specs.Marks.{markOf, Written};
 ghost use Rattle.listing.specs.Portion.{Promised, Portioned};
@@ -38,13 +39,15 @@ fn write_listed(
     records: &mut [u16],
 ) -> Answer
     requires { ⌜ Held (now coords) (now labels) (now parts) n ⌝ }
-    requires { ⌜ (n < length (now offsets)) × ((length (now labels) ≤ length (now entries)) × (length (now marks) ≡ 131072)) ⌝ }
+    requires { ⌜ (n < length (now offsets)) × ((length (now labels) ≤ length (now entries)) × (length (now marks) ≡ places)) ⌝ }
     requires { ⌜ Tabled (meshOf [] (now labels) []) n (now table) ⌝ }
     ensures { λ r. ⌜ Written (meshOf (now (coords .entry)) (now (labels .entry)) (now (parts .entry))) (markOf mark) (now (records .entry)) r (now (records .exit)) ⌝ }
 {
     around::index(labels, n, offsets, entries);
     marks::note_facets(labels, marks);
+    let all = levels::tables();
     records::write_cells(
+        &all,
         coords,
         labels,
         parts,
@@ -72,7 +75,7 @@ fn portion_of(
     records: &mut [u16],
 ) -> Answer
     requires { ⌜ Held (now coords) (now labels) (now parts) n ⌝ }
-    requires { ⌜ (n < length (now offsets)) × ((length (now labels) ≤ length (now entries)) × (length (now marks) ≡ 131072)) ⌝ }
+    requires { ⌜ (n < length (now offsets)) × ((length (now labels) ≤ length (now entries)) × (length (now marks) ≡ places)) ⌝ }
     ensures { λ r. ⌜ Promised 0 (meshOf (now (coords .entry)) (now (labels .entry)) (now (parts .entry))) n (markOf mark) (now (table .entry)) (now (records .entry)) r (now (table .exit)) (now (records .exit)) ⌝ }
 {
     let roomy = is_roomy(records);
@@ -138,7 +141,7 @@ fn portion_in(
 ) -> Answer
     requires { ⌜ Framed (now file) n t × (checked (now file) ≡ Accepted n t) ⌝ }
     requires { ⌜ (length (now coords) ≡ 3 * n) × ((length (now labels) ≡ 4 * t) × (length (now parts) ≡ t)) ⌝ }
-    requires { ⌜ (n < length (now offsets)) × ((4 * t ≤ length (now entries)) × (length (now marks) ≡ 131072)) ⌝ }
+    requires { ⌜ (n < length (now offsets)) × ((4 * t ≤ length (now entries)) × (length (now marks) ≡ places)) ⌝ }
     ensures { λ r. ⌜ Portioned (now (file .entry)) (markOf mark) (now (table .entry)) (now (records .entry)) r (now (table .exit)) (now (records .exit)) ⌝ }
 {
     decode(file, n, t, coords, labels, parts);

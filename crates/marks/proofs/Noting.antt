@@ -1,103 +1,102 @@
 -- What stores of marks add up to, and that marks of every tetrahedron are marks of every facet.
 -- Assumes nothing.
-use Prim.Native.Nat.{ℕ, _+_, _*_, _/_, _<_}
+use Prim.Native.Nat.{ℕ, _+_, _/_, _%_, _<_}
 use mathlib.Core.Path.{_≡_, refl, sym, _∙_, ap}
-use mathlib.Core.Logic.{_⊎_, inl, inr, ⊎-elim}
-use mathlib.Core.Bool.{Bool, true, false, not, _&&_, _||_, false≢true}
-use mathlib.Core.List.{List, [], _∷_, List·Memᴰ}
+use mathlib.Core.Bool.{Bool, true, false, not, _||_}
+use mathlib.Core.List.{List, [], _∷_}
 use native.Mathlib.Omega.{arith}
 use native.Mathlib.Decide.{decLt}
 use borrow.Author.Tests.{eqb-true, eqb-false}
 use lib.Dec.{eqb}
 use lib.ListN.{length, getD, set, length-set}
 use lib.Seq.{getD-set-same, getD-set-other}
-use Rattle.base.specs.Lists.{all, any, upTo, isIn}
+use Rattle.base.specs.Lists.{upTo, isIn}
+use Rattle.base.proofs.Bools.{or-false, or-either}
 use Rattle.base.proofs.Lists.{both-left, both-right, any-at}
 use Rattle.base.proofs.Members.{from-at}
 use Rattle.base.proofs.Runs.{any-map}
 use Rattle.space.specs.Mesh.{together, holds}
-use Rattle.space.specs.Arrays.{row4, tetAt, meshOf}
-use Rattle.marks.specs.Marks.{key, noted, Marked, Notes, OfPoint, OfLine, OfSquare, OfTet, Below}
-
-noted-of : (m : List ℕ) (x y z : ℕ) → eqb (getD m (key x y z) 0) 0 ≡ false → noted m x y z ≡ true
-unfolding noted
-noted-of m x y z e = rw e
-
-of-noted : (m : List ℕ) (x y z : ℕ) → noted m x y z ≡ true → eqb (getD m (key x y z) 0) 0 ≡ false
-unfolding noted
-of-noted m x y z e = go (eqb (getD m (key x y z) 0) 0) e
-  where
-    go : (b : Bool) → not b ≡ true → b ≡ false
-    go true e = absurd (false≢true e)
-    go false e = refl
+use Rattle.space.specs.Arrays.{row4, tetAt}
+use Rattle.space.proofs.Turned.{spread-first, spread-last}
+use Rattle.marks.specs.Marks.{places, key, noted, Marked, Notes, Among, OfPoint, OfSquare, OfTet, Below}
 
 -- a store makes one
 pub note-one : (m : List ℕ) (u v w k : ℕ) → k ≡ key u v w → k < length m → Notes m (set m k 1) (OfPoint u v w)
+unfolding noted
 note-one m u v w k q h = record {
   same = length-set m k 1;
-  kept = λ i e. stays i e (eqb i k) refl;
-  made = λ x y z o. noted-of (set m k 1) x y z
-      (ap (λ y. eqb y 0) (ap (λ y. getD (set m k 1) y 0) (rw (o .0, o .1 .0, o .1 .1) (sym q)) ∙ getD-set-same m k 1 0 h));
+  kept = λ x y z e. stays (key x y z) e (eqb (key x y z) k) refl;
+  made = λ x y z o. here (key x y z) (rw (only x u (o .first), only y v (o .second), only z w (o .third)) (sym q));
 }
   where
-    stays : (i : ℕ) → eqb (getD m i 0) 0 ≡ false → (b : Bool) → eqb i k ≡ b → eqb (getD (set m k 1) i 0) 0 ≡ false
-    stays i e true f = ap (λ y. eqb y 0) (ap (λ y. getD (set m k 1) y 0) (eqb-true i k f) ∙ getD-set-same m k 1 0 h)
-    stays i e false f = ap (λ y. eqb y 0) (getD-set-other m k i 1 0 (eqb-false i k f)) ∙ e
+    only : (x a : ℕ) → isIn x (a ∷ []) ≡ true → x ≡ a
+    only x a e = eqb-true x a (sym (or-false (eqb x a)) ∙ e)
 
--- one after the other
-pub notes-then : {m m′ m″ : List ℕ} {p q r : ℕ → ℕ → ℕ → Type 0} → Notes m m′ p → Notes m′ m″ q → ((x y z : ℕ) → r x y z → p x y z ⊎ q x y z) → Notes m m″ r
-notes-then {m} {m′} {m″} a b f = record {
-  same = b .same ∙ a .same;
-  kept = λ i e. b .kept i (a .kept i e);
-  made = λ x y z o. ⊎-elim (λ g. noted-of m″ x y z (b .kept (key x y z) (of-noted m′ x y z (a .made x y z g)))) (λ g. b .made x y z g) (f x y z o);
-}
+    here : (i : ℕ) → i ≡ k → not (eqb (getD (set m k 1) i 0) 0) ≡ true
+    here i e = ap (λ y. not (eqb y 0)) (ap (λ y. getD (set m k 1) y 0) e ∙ getD-set-same m k 1 0 h)
 
--- ── among four ──
+    stays : (i : ℕ) → not (eqb (getD m i 0) 0) ≡ true → (b : Bool) → eqb i k ≡ b → not (eqb (getD (set m k 1) i 0) 0) ≡ true
+    stays i e true f = here i (eqb-true i k f)
+    stays i e false f = ap (λ y. not (eqb y 0)) (getD-set-other m k i 1 0 (eqb-false i k f)) ∙ e
 
-or-either : (a b : Bool) → (a || b) ≡ true → (a ≡ true) ⊎ (b ≡ true)
-or-either true b e = inl refl
-or-either false b e = inr e
+-- ── the order of the three does not matter ──
 
-among : (x a : ℕ) (vs : List ℕ) → isIn x (a ∷ vs) ≡ true → (x ≡ a) ⊎ (isIn x vs ≡ true)
-among x a vs e = ⊎-elim (λ f. inl (eqb-true x a f)) (λ f. inr f) (or-either (eqb x a) (isIn x vs) e)
+noted-first : (m : List ℕ) (u v w : ℕ) → noted m u v w ≡ true → noted m v u w ≡ true
+unfolding noted key
+noted-first m u v w e = ap (λ n. not (eqb (getD m (n % places) 0) 0)) (spread-first v u w) ∙ e
 
-pick : (P : ℕ → Type 0) (a b c d v : ℕ) → isIn v (a ∷ b ∷ c ∷ d ∷ []) ≡ true → P v → ((P a ⊎ P b) ⊎ P c) ⊎ P d
-pick P a b c d v e p =
-    ⊎-elim (λ f. inl (inl (inl (rw (← f) p))))
-    (λ e1. ⊎-elim (λ f. inl (inl (inr (rw (← f) p))))
-    (λ e2. ⊎-elim (λ f. inl (inr (rw (← f) p)))
-    (λ e3. ⊎-elim (λ f. inr (rw (← f) p)) (λ e4. absurd (false≢true e4)) (among v d [] e3)) (among v c (d ∷ []) e2)) (among v b (c ∷ d ∷ []) e1)) (among v a (b ∷ c ∷ d ∷ []) e)
+noted-last : (m : List ℕ) (u v w : ℕ) → noted m u v w ≡ true → noted m u w v ≡ true
+unfolding noted key
+noted-last m u v w e = ap (λ n. not (eqb (getD m (n % places) 0) 0)) (spread-last u w v) ∙ e
 
--- four runs of stores, each for one of four vertices
-notes-four : {m m1 m2 m3 m4 : List ℕ} {p q r s t : ℕ → ℕ → ℕ → Type 0} → Notes m m1 p → Notes m1 m2 q → Notes m2 m3 r → Notes m3 m4 s → ((x y z : ℕ) → t x y z → ((p x y z ⊎ q x y z) ⊎ r x y z) ⊎ s x y z) → Notes m m4 t
-notes-four {p = p} {q = q} {r = r} a b c d f =
-    notes-then {p = λ x y z. (p x y z ⊎ q x y z) ⊎ r x y z} (notes-then {p = λ x y z. p x y z ⊎ q x y z} {q = r} (notes-then {p = p} {q = q} a b (λ x y z o. o)) c (λ x y z o. o)) d f
+-- ── one after the other ──
 
-module _ {m m1 m2 m3 m4 : List ℕ} (a b c d : ℕ) where
-  pub note-line : (u v : ℕ) → Notes m m1 (OfPoint u v a) → Notes m1 m2 (OfPoint u v b) → Notes m2 m3 (OfPoint u v c) → Notes m3 m4 (OfPoint u v d) → Notes m m4 (OfLine u v (a ∷ b ∷ c ∷ d ∷ []))
-  note-line u v p q r s = notes-four p q r s (λ x y z o. pick (λ w. OfPoint u v w x y z) a b c d z (o .1 .1) (o .0, (o .1 .0, refl)))
+-- the first of a list, or one of the others
+among : (x a : ℕ) (vs : List ℕ) {P : Type 0} → isIn x (a ∷ vs) ≡ true → (isIn x (a ∷ []) ≡ true → P) → (isIn x vs ≡ true → P) → P
+among x a vs e f g = or-either (eqb x a) (isIn x vs) e (λ h. f (ap (λ b. b || false) h)) g
 
-  pub note-square : (u : ℕ) → Notes m m1 (OfLine u a (a ∷ b ∷ c ∷ d ∷ [])) → Notes m1 m2 (OfLine u b (a ∷ b ∷ c ∷ d ∷ [])) → Notes m2 m3 (OfLine u c (a ∷ b ∷ c ∷ d ∷ [])) → Notes m3 m4 (OfLine u d (a ∷ b ∷ c ∷ d ∷ [])) → Notes m m4 (OfSquare u (a ∷ b ∷ c ∷ d ∷ []))
-  note-square u p q r s = notes-four p q r s (λ x y z o. pick (λ w. OfLine u w (a ∷ b ∷ c ∷ d ∷ []) x y z) a b c d y (o .1 .0) (o .0, (refl, o .1 .1)))
+of : {us vs ws : List ℕ} {x y z : ℕ} → isIn x us ≡ true → isIn y vs ≡ true → isIn z ws ≡ true → Among us vs ws x y z
+of e f g = record { first = e; second = f; third = g }
 
-  pub note-tet : Notes m m1 (OfSquare a (a ∷ b ∷ c ∷ d ∷ [])) → Notes m1 m2 (OfSquare b (a ∷ b ∷ c ∷ d ∷ [])) → Notes m2 m3 (OfSquare c (a ∷ b ∷ c ∷ d ∷ [])) → Notes m3 m4 (OfSquare d (a ∷ b ∷ c ∷ d ∷ [])) → Notes m m4 (OfTet (a ∷ b ∷ c ∷ d ∷ []))
-  note-tet p q r s = notes-four p q r s (λ x y z o. pick (λ w. OfSquare w (a ∷ b ∷ c ∷ d ∷ []) x y z) a b c d x (o .0) (refl, (o .1 .0, o .1 .1)))
+module _ {m m′ m″ : List ℕ} where
+  module _ {p q : ℕ → ℕ → ℕ → Type 0} (i : Notes m m′ p) (j : Notes m′ m″ q) where
+    earlier : (x y z : ℕ) → p x y z → noted m″ x y z ≡ true
+    earlier x y z o = j .kept x y z (i .made x y z o)
+
+    notes-then : {r : ℕ → ℕ → ℕ → Type 0} → ((x y z : ℕ) → r x y z → noted m″ x y z ≡ true) → Notes m m″ r
+    notes-then f = record { same = j .same ∙ i .same; kept = λ x y z e. j .kept x y z (i .kept x y z e); made = f }
+
+  -- one more vertex at the third place, at the last two, at all three: what has it in it is turned so that it comes first of these
+  module _ {a : ℕ} {us vs : List ℕ} where
+    pub line-next : {ws : List ℕ} → Notes m m′ (Among us vs (a ∷ [])) → Notes m′ m″ (Among us vs ws) → Notes m m″ (Among us vs (a ∷ ws))
+    line-next {ws} i j = notes-then i j (λ x y z o. among z a ws (o .third) (λ e. earlier i j x y z (of (o .first) (o .second) e)) (λ e. j .made x y z (of (o .first) (o .second) e)))
+
+    pub square-next : Notes m m′ (Among us (a ∷ []) (a ∷ vs)) → Notes m′ m″ (Among us vs vs) → Notes m m″ (Among us (a ∷ vs) (a ∷ vs))
+    square-next i j =
+        notes-then i j (λ x y z o. among y a vs (o .second) (λ e. earlier i j x y z (of (o .first) e (o .third)))
+        (λ f. among z a vs (o .third) (λ e. noted-last m″ x z y (earlier i j x z y (of (o .first) e (o .second))))
+        (λ g. j .made x y z (of (o .first) f g))))
+
+  pub tet-next : {a : ℕ} {vs : List ℕ} → Notes m m′ (OfSquare a (a ∷ vs)) → Notes m′ m″ (OfTet vs) → Notes m m″ (OfTet (a ∷ vs))
+  tet-next {a} {vs} i j =
+      notes-then i j (λ x y z o. among x a vs (o .first) (λ e. earlier i j x y z (of e (o .second) (o .third)))
+      (λ f. among y a vs (o .second) (λ e. noted-first m″ y x z (earlier i j y x z (of e (o .first) (o .third))))
+      (λ g. among z a vs (o .third) (λ e. noted-last m″ x z y (noted-first m″ z x y (earlier i j z x y (of e (o .first) (o .second)))))
+      (λ h. j .made x y z (of f g h)))))
 
 -- ── all tetrahedra ──
 
 pub notes-none : (m ls : List ℕ) → Notes m m (Below ls 0)
-notes-none m ls = record { same = refl; kept = λ i e. e; made = λ x y z o. absurd (let h : ⊥ = omega (arith, o .before) in h) }
+notes-none m ls = record { same = refl; kept = λ x y z e. e; made = λ x y z o. absurd (let h : ⊥ = omega (arith, o .before) in h) }
 
 pub notes-next : {m m′ m″ : List ℕ} (ls : List ℕ) (i : ℕ) → Notes m m′ (Below ls i) → Notes m′ m″ (OfTet (row4 ls i)) → Notes m m″ (Below ls (i + 1))
-notes-next ls i a b = notes-then a b split
-  where
-    split : (x y z : ℕ) → Below ls (i + 1) x y z → Below ls i x y z ⊎ OfTet (row4 ls i) x y z
-    split x y z o = elim (decLt (o .tet) i) [
-      | yes h ↦ inl (record { tet = o .tet; before = h; held = o .held })
-      | no h ↦ let e : o .tet ≡ i = omega (arith, o .before) in inr (rw (← e) (o .held))
-    ]
+notes-next ls i a b =
+    notes-then a b {r = Below ls (i + 1)} (λ x y z o. elim (decLt (o .tet) i) [
+      | yes h ↦ earlier a b x y z (record { tet = o .tet; before = h; held = o .held })
+      | no h ↦ let e : o .tet ≡ i = omega (arith, o .before) in b .made x y z (rw (← e) (o .held))
+    ])
 
-pub all-marked : {m m′ ls : List ℕ} → length m ≡ 131072 → Notes m m′ (Below ls (length ls / 4)) → Marked ls m′
+pub all-marked : {m m′ ls : List ℕ} → length m ≡ places → Notes m m′ (Below ls (length ls / 4)) → Marked ls m′
 unfolding together
 all-marked {m} {m′} {ls} l a = record {
   size = a .same ∙ l;
@@ -109,6 +108,6 @@ all-marked {m} {m′} {ls} l a = record {
       a .made u v w (record {
         tet = i;
         before = omega (arith, from-at 0 (length ls / 4) (f .1) .1);
-        held = (both-left (isIn u (row4 ls i)) _ g, (both-left (isIn v (row4 ls i)) _ g1, both-left (isIn w (row4 ls i)) _ (both-right (isIn v (row4 ls i)) _ g1)));
+        held = of (both-left (isIn u (row4 ls i)) _ g) (both-left (isIn v (row4 ls i)) _ g1) (both-left (isIn w (row4 ls i)) _ (both-right (isIn v (row4 ls i)) _ g1));
       });
 }

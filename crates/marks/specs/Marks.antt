@@ -1,19 +1,24 @@
 -- Marks of facets: a table in which three vertices have one place. Where the place is empty they are no facet; where it is not they may be.
 -- Assumes nothing.
-use Prim.Native.Nat.{ℕ, _+_, _*_, _%_, _<_}
+use Prim.Native.Nat.{ℕ, _%_, _<_}
 use mathlib.Core.Path.{_≡_}
-use mathlib.Core.Bool.{Bool, true, false, not, _&&_, _||_}
+use mathlib.Core.Bool.{Bool, true, not, _&&_, _||_}
 use mathlib.Core.List.{List, [], _∷_}
 use lib.Dec.{eqb}
 use lib.ListN.{length, getD}
 use Rattle.base.specs.Lists.{all, isIn}
 use Rattle.space.specs.Mesh.{together}
 use Rattle.space.specs.Arrays.{row4, meshOf}
+use Rattle.space.specs.Spread.{spread}
 use Rattle.templates.specs.Tables.{Template, at}
+
+-- how many places the table has
+abbrev pub places : ℕ
+places = 131072
 
 -- the place of three vertices, in whatever order they are named
 unfoldable pub key : ℕ → ℕ → ℕ → ℕ
-key u v w = (12345 * (u + v + w) + (u * u + v * v + w * w)) % 131072
+key u v w = spread u v w % places
 
 -- there is a mark at the place of three vertices
 unfoldable pub noted : List ℕ → ℕ → ℕ → ℕ → Bool
@@ -21,7 +26,7 @@ noted ms u v w = not (eqb (getD ms (key u v w) 0) 0)
 
 -- every three vertices of a tetrahedron have their mark
 pub record Marked (ls ms : List ℕ) : Type 0 where
-  pub size : length ms ≡ 131072
+  pub size : length ms ≡ places
   pub facets : (u v w : ℕ) → together (meshOf [] ls []) (u ∷ v ∷ w ∷ []) ≡ true → noted ms u v w ≡ true
 
 -- three vertices in a list, and both triangles of a diagonal of four
@@ -43,21 +48,24 @@ facesNoted ms t c = all (λ f. notedFacet ms (at c f)) (t .triangles) && all (λ
 -- m′ has the marks of m, and one for every three vertices that are asked for
 pub record Notes (m m′ : List ℕ) (asked : ℕ → ℕ → ℕ → Type 0) : Type 0 where
   pub same : length m′ ≡ length m
-  pub kept : (i : ℕ) → eqb (getD m i 0) 0 ≡ false → eqb (getD m′ i 0) 0 ≡ false
+  pub kept : (x y z : ℕ) → noted m x y z ≡ true → noted m′ x y z ≡ true
   pub made : (x y z : ℕ) → asked x y z → noted m′ x y z ≡ true
 
-abbrev pub OfPoint : ℕ → ℕ → ℕ → ℕ → ℕ → ℕ → Type 0
-OfPoint u v w x y z = (x ≡ u) × ((y ≡ v) × (z ≡ w))
+-- each of three vertices is among those for its place
+pub record Among (us vs ws : List ℕ) (x y z : ℕ) : Type 0 where
+  pub first : isIn x us ≡ true
+  pub second : isIn y vs ≡ true
+  pub third : isIn z ws ≡ true
 
--- the third, the last two, and all three are among these
-abbrev pub OfLine : ℕ → ℕ → List ℕ → ℕ → ℕ → ℕ → Type 0
-OfLine u v vs x y z = (x ≡ u) × ((y ≡ v) × (isIn z vs ≡ true))
+-- these three; this one and two of some; three of some
+abbrev pub OfPoint : ℕ → ℕ → ℕ → ℕ → ℕ → ℕ → Type 0
+OfPoint u v w = Among (u ∷ []) (v ∷ []) (w ∷ [])
 
 abbrev pub OfSquare : ℕ → List ℕ → ℕ → ℕ → ℕ → Type 0
-OfSquare u vs x y z = (x ≡ u) × ((isIn y vs ≡ true) × (isIn z vs ≡ true))
+OfSquare u vs = Among (u ∷ []) vs vs
 
 abbrev pub OfTet : List ℕ → ℕ → ℕ → ℕ → Type 0
-OfTet vs x y z = (isIn x vs ≡ true) × ((isIn y vs ≡ true) × (isIn z vs ≡ true))
+OfTet vs = Among vs vs vs
 
 -- all three are vertices of one of the first i tetrahedra
 pub record Below (ls : List ℕ) (i x y z : ℕ) : Type 0 where

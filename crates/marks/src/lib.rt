@@ -2,43 +2,28 @@
 use cells::corners3;
 use cells::corners4;
 use space::Vertex;
+use space::spread;
 ghost use mathlib.Core.Path.{_≡_};
 ghost use mathlib.Core.Bool.{_&&_};
-ghost use Prim.Native.Nat.{_*_, _/_, _<_};
+ghost use Prim.Native.Nat.{_/_, _<_};
 ghost use mathlib.Core.List.{[], _∷_};
 ghost use Rattle.base.specs.Lists.{all};
 ghost use lib.ListN.{length};
 ghost use Rattle.space.specs.Arrays.{row4};
 ghost use Rattle.templates.specs.Tables.{at};
 ghost use Rattle.cells.specs.Rows.{row3, threes, fours, tabled};
-ghost use Rattle.marks.specs.Marks.{key, noted, Marked, notedFacet, splitAt, notedSplit, facesNoted, Notes, OfPoint, OfLine, OfSquare, OfTet};
+ghost use Rattle.marks.specs.Marks.{places, key, noted, Marked, notedFacet, splitAt, notedSplit, facesNoted, Notes, OfPoint, OfSquare, OfTet};
 
-fn wide(v: Vertex) -> usize
-    ensures { λ r. ⌜ (r ≡ v .0) × (r < 65536) ⌝ }
-{
-    v.0 as usize
-}
-
-fn square(x: usize) -> usize
-    requires { ⌜ x < 65536 ⌝ }
-    ensures { λ r. ⌜ (r ≡ x * x) × (r < 4294967296) ⌝ }
-{
-    x * x
-}
-
-// The place of three vertices.
+// The place of three vertices, whatever their order.
 fn key(u: Vertex, v: Vertex, w: Vertex) -> usize
-    ensures { λ r. ⌜ (r ≡ key (u .0) (v .0) (w .0)) × (r < 131072) ⌝ }
+    ensures { λ r. ⌜ (r ≡ key (u .0) (v .0) (w .0)) × (r < places) ⌝ }
 {
-    let a = wide(u);
-    let b = wide(v);
-    let c = wide(w);
-    (12345 * (a + b + c) + (square(a) + square(b) + square(c))) % 131072
+    spread(u, v, w) % 131072
 }
 
 // Three vertices may be a facet: where this is false, they are none.
 pub fn is_noted(marks: &[u8], u: Vertex, v: Vertex, w: Vertex) -> bool
-    requires { ⌜ length (now marks) ≡ 131072 ⌝ }
+    requires { ⌜ length (now marks) ≡ places ⌝ }
     ensures { λ r. ⌜ r ≡ noted (now (marks .entry)) (u .0) (v .0) (w .0) ⌝ }
 {
     let at = key(u, v, w);
@@ -48,49 +33,58 @@ pub fn is_noted(marks: &[u8], u: Vertex, v: Vertex, w: Vertex) -> bool
 // ---- making the marks
 
 fn note(marks: &mut [u8], u: Vertex, v: Vertex, w: Vertex)
-    requires { ⌜ length (now marks) ≡ 131072 ⌝ }
+    requires { ⌜ length (now marks) ≡ places ⌝ }
     ensures { λ r. ⌜ Notes (now (marks .entry)) (now (marks .exit)) (OfPoint (u .0) (v .0) (w .0)) ⌝ }
 {
     let at = key(u, v, w);
     marks[at] = 1;
 }
 
-// u and v with each of the four.
-fn note_line(marks: &mut [u8], u: Vertex, v: Vertex, a: Vertex, b: Vertex, c: Vertex, d: Vertex)
-    requires { ⌜ length (now marks) ≡ 131072 ⌝ }
-    ensures { λ r. ⌜ Notes (now (marks .entry)) (now (marks .exit)) (OfLine (u .0) (v .0) (a .0 ∷ b .0 ∷ c .0 ∷ d .0 ∷ [])) ⌝ }
+// u with each two of two, of three and of four vertices, in one order and also where the two are one.
+fn note_two(marks: &mut [u8], u: Vertex, c: Vertex, d: Vertex)
+    requires { ⌜ length (now marks) ≡ places ⌝ }
+    ensures { λ r. ⌜ Notes (now (marks .entry)) (now (marks .exit)) (OfSquare (u .0) (c .0 ∷ d .0 ∷ [])) ⌝ }
 {
-    note(marks, u, v, a);
-    note(marks, u, v, b);
-    note(marks, u, v, c);
-    note(marks, u, v, d);
+    note(marks, u, c, c);
+    note(marks, u, c, d);
+    note(marks, u, d, d);
 }
 
-// u with each two of the four.
-fn note_square(marks: &mut [u8], u: Vertex, a: Vertex, b: Vertex, c: Vertex, d: Vertex)
-    requires { ⌜ length (now marks) ≡ 131072 ⌝ }
+fn note_three(marks: &mut [u8], u: Vertex, b: Vertex, c: Vertex, d: Vertex)
+    requires { ⌜ length (now marks) ≡ places ⌝ }
+    ensures { λ r. ⌜ Notes (now (marks .entry)) (now (marks .exit)) (OfSquare (u .0) (b .0 ∷ c .0 ∷ d .0 ∷ [])) ⌝ }
+{
+    note(marks, u, b, b);
+    note(marks, u, b, c);
+    note(marks, u, b, d);
+    note_two(marks, u, c, d);
+}
+
+fn note_four(marks: &mut [u8], u: Vertex, a: Vertex, b: Vertex, c: Vertex, d: Vertex)
+    requires { ⌜ length (now marks) ≡ places ⌝ }
     ensures { λ r. ⌜ Notes (now (marks .entry)) (now (marks .exit)) (OfSquare (u .0) (a .0 ∷ b .0 ∷ c .0 ∷ d .0 ∷ [])) ⌝ }
 {
-    note_line(marks, u, a, a, b, c, d);
-    note_line(marks, u, b, a, b, c, d);
-    note_line(marks, u, c, a, b, c, d);
-    note_line(marks, u, d, a, b, c, d);
+    note(marks, u, a, a);
+    note(marks, u, a, b);
+    note(marks, u, a, c);
+    note(marks, u, a, d);
+    note_three(marks, u, b, c, d);
 }
 
-// Each three of the four, in every order and also where two are one: so no law about the key is needed.
+// Each three of the four, in one order and also where two are one: those with a in them, of the others those with b, and so on.
 fn note_tet(marks: &mut [u8], a: Vertex, b: Vertex, c: Vertex, d: Vertex)
-    requires { ⌜ length (now marks) ≡ 131072 ⌝ }
+    requires { ⌜ length (now marks) ≡ places ⌝ }
     ensures { λ r. ⌜ Notes (now (marks .entry)) (now (marks .exit)) (OfTet (a .0 ∷ b .0 ∷ c .0 ∷ d .0 ∷ [])) ⌝ }
 {
-    note_square(marks, a, a, b, c, d);
-    note_square(marks, b, a, b, c, d);
-    note_square(marks, c, a, b, c, d);
-    note_square(marks, d, a, b, c, d);
+    note_four(marks, a, a, b, c, d);
+    note_three(marks, b, b, c, d);
+    note_two(marks, c, c, d);
+    note(marks, d, d, d);
 }
 
 // Marks every facet. Other marks stay.
 pub fn note_facets(labels: &[u16], marks: &mut [u8])
-    requires { ⌜ length (now marks) ≡ 131072 ⌝ }
+    requires { ⌜ length (now marks) ≡ places ⌝ }
     ensures { λ r. ⌜ Marked (now (labels .entry)) (now (marks .exit)) ⌝ }
 {
     let t = labels.len() / 4;
@@ -118,7 +112,7 @@ fn both_noted(
     e: Vertex,
     f: Vertex,
 ) -> bool
-    requires { ⌜ length (now marks) ≡ 131072 ⌝ }
+    requires { ⌜ length (now marks) ≡ places ⌝ }
     ensures { λ r. ⌜ r ≡ (noted (now (marks .entry)) (a .0) (b .0) (c .0) && noted (now (marks .entry)) (d .0) (e .0) (f .0)) ⌝ }
 {
     if !is_noted(marks, a, b, c) {
@@ -129,7 +123,7 @@ fn both_noted(
 
 // Both triangles of a diagonal of a quadrilateral may be facets.
 fn split_noted(marks: &[u8], a: Vertex, b: Vertex, c: Vertex, d: Vertex) -> bool
-    requires { ⌜ length (now marks) ≡ 131072 ⌝ }
+    requires { ⌜ length (now marks) ≡ places ⌝ }
     ensures { λ r. ⌜ r ≡ splitAt (now (marks .entry)) (a .0) (b .0) (c .0) (d .0) ⌝ }
 {
     if both_noted(marks, a, b, c, a, c, d) {
@@ -139,7 +133,7 @@ fn split_noted(marks: &[u8], a: Vertex, b: Vertex, c: Vertex, d: Vertex) -> bool
 }
 
 fn triangle_noted(marks: &[u8], c: &[u16], rows: &[u8], i: usize) -> bool
-    requires { ⌜ (length (now marks) ≡ 131072) × (i < length (now rows) / 3) ⌝ }
+    requires { ⌜ (length (now marks) ≡ places) × (i < length (now rows) / 3) ⌝ }
     ensures { λ r. ⌜ r ≡ notedFacet (now (marks .entry)) (at (now (c .entry)) (row3 (now (rows .entry)) i)) ⌝ }
 {
     let f = corners3(c, rows, i);
@@ -147,7 +141,7 @@ fn triangle_noted(marks: &[u8], c: &[u16], rows: &[u8], i: usize) -> bool
 }
 
 fn quad_noted(marks: &[u8], c: &[u16], rows: &[u8], i: usize) -> bool
-    requires { ⌜ (length (now marks) ≡ 131072) × (i < length (now rows) / 4) ⌝ }
+    requires { ⌜ (length (now marks) ≡ places) × (i < length (now rows) / 4) ⌝ }
     ensures { λ r. ⌜ r ≡ notedSplit (now (marks .entry)) (at (now (c .entry)) (row4 (now (rows .entry)) i)) ⌝ }
 {
     let q = corners4(c, rows, i);
@@ -161,7 +155,7 @@ fn quad_noted(marks: &[u8], c: &[u16], rows: &[u8], i: usize) -> bool
 }
 
 fn triangles_noted(marks: &[u8], c: &[u16], rows: &[u8]) -> bool
-    requires { ⌜ length (now marks) ≡ 131072 ⌝ }
+    requires { ⌜ length (now marks) ≡ places ⌝ }
     ensures { λ r. ⌜ r ≡ all (λ f. notedFacet (now (marks .entry)) (at (now (c .entry)) f)) (threes (now (rows .entry))) ⌝ }
 {
     let k = rows.len() / 3;
@@ -176,7 +170,7 @@ fn triangles_noted(marks: &[u8], c: &[u16], rows: &[u8]) -> bool
 }
 
 fn quads_noted(marks: &[u8], c: &[u16], rows: &[u8]) -> bool
-    requires { ⌜ length (now marks) ≡ 131072 ⌝ }
+    requires { ⌜ length (now marks) ≡ places ⌝ }
     ensures { λ r. ⌜ r ≡ all (λ q. notedSplit (now (marks .entry)) (at (now (c .entry)) q)) (fours (now (rows .entry))) ⌝ }
 {
     let k = rows.len() / 4;
@@ -192,7 +186,7 @@ fn quads_noted(marks: &[u8], c: &[u16], rows: &[u8]) -> bool
 
 // Every face of the tables may be one of the mesh.
 pub fn faces_noted(marks: &[u8], c: &[u16], triangles: &[u8], quads: &[u8]) -> bool
-    requires { ⌜ length (now marks) ≡ 131072 ⌝ }
+    requires { ⌜ length (now marks) ≡ places ⌝ }
     ensures { λ r. ⌜ r ≡ facesNoted (now (marks .entry)) (tabled 0 [] (now (triangles .entry)) (now (quads .entry)) []) (now (c .entry)) ⌝ }
 {
     if !triangles_noted(marks, c, triangles) {

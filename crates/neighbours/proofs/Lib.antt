@@ -1,4 +1,5 @@
 pub mod Rows
+pub mod Growing
 pub mod Marking
 pub mod Law
 pub mod Tets

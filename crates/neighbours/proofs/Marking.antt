@@ -8,10 +8,11 @@ use native.Mathlib.Omega.{arith}
 use native.Mathlib.Decide.{decLt}
 use borrow.Author.Tests.{eqb-true, eqb-false}
 use lib.Dec.{eqb}
+use lib.Bits.{bitOr, or-add-and, and-le-l, and-le-r}
 use lib.ListN.{length, getD, set, length-set, replicate, getD-replicate, length-replicate, List·getD-eq-default}
 use lib.Seq.{getD-set-same, getD-set-other}
 use native.Mathlib.Numerals.{add-one}
-use Rattle.neighbours.specs.Marks.{isOne, near, hit, Adds, point, line, square}
+use Rattle.neighbours.specs.Marks.{isOne, near, hit, Adds, Blank, point, line, square}
 
 pub adds-then : {m m′ m″ : List ℕ} {f g : ℕ → ℕ → Bool} → Adds m m′ f → Adds m′ m″ g → Adds m m″ (λ x y. f x y || g x y)
 adds-then {m} {m′} {m″} {f} {g} a b = record { same = b .same ∙ a .same; at = λ x y h. b .at x y h ∙ ap (λ t. t || g x y) (a .at x y h) ∙ or-assoc (hit m x y) (f x y) (g x y) }
@@ -74,3 +75,20 @@ zeros-at k i = elim (decLt i k) [
 pub hit-none : (k x y : ℕ) → hit (replicate k 0) x y ≡ false
 unfolding hit
 hit-none k x y = ap (λ j. not (eqb j 0)) (zeros-at k (x * 512 + y))
+
+-- ---- no mark
+pub blank-none : (m : List ℕ) (u v : ℕ) → Blank m u v 0
+blank-none m u v i h = absurd (let o : ⊥ = omega arith in o)
+
+or-none : (a b : ℕ) → bitOr a b ≡ 0 → (a ≡ 0) × (b ≡ 0)
+or-none a b h = (omega (arith, or-add-and a b, and-le-r a b), omega (arith, or-add-and a b, and-le-l a b))
+
+-- one place more
+pub blank-more : (m : List ℕ) (u v k x : ℕ) → (x ≡ 0 → Blank m u v k) → bitOr x (getD m (u * 512 + v + k) 0) ≡ 0 → Blank m u v (k + 1)
+unfolding hit
+blank-more m u v k x f h i l = elim (decLt i k) [
+  | yes b ↦ f (or-none x (getD m (u * 512 + v + k) 0) h .0) i b
+  | no b ↦
+      let e : u * 512 + (v + i) ≡ u * 512 + v + k = omega arith in
+      ap (λ j. not (eqb (getD m j 0) 0)) e ∙ ap (λ j. not (eqb j 0)) (or-none x (getD m (u * 512 + v + k) 0) h .1)
+]

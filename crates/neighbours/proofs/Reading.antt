@@ -5,16 +5,18 @@ use mathlib.Core.List.{List, [], _∷_, _++_, map, append-assoc}
 use Prim.Native.Nat.{ℕ, zero, suc, _+_, _-_, _≤_, _<_}
 use native.Mathlib.Nat.{zero-add, add-assoc}
 use native.Mathlib.Omega.{arith}
+use native.Mathlib.Decide.{decLt}
 use lib.Dec.{eqb}
-use lib.ListN.{length, getD, take, drop, length-append, List·getD-append}
-use lib.Seq.{drop-at, take-at, getD-at, getD-drop}
+use lib.ListN.{length, getD, take, drop, length-append, length-drop, List·getD-append}
+use lib.Seq.{drop-at, take-at, getD-at, getD-drop, getD-take, length-take-le}
 use Rattle.base.specs.Lists.{spread, from, upTo}
 use Rattle.base.proofs.Runs.{from-add, spread-append, map-append, place-of, kept-rises}
 use Rattle.base.proofs.Members.{keep-has, from-has}
 use Rattle.space.specs.Mesh.{Mesh, together}
+use Rattle.neighbours.specs.declared.Row.{Row}
 use Rattle.neighbours.specs.Table.{rowOf, rowsOf, offsets, tableBy, neighboursOf, tableOf}
 use Rattle.neighbours.specs.Marks.{nearBy}
-use Rattle.neighbours.specs.Reading.{Tabled, RowOf}
+use Rattle.neighbours.specs.Reading.{Tabled, RowOf, entriesOf}
 use Rattle.neighbours.proofs.Rows.{offs, offs-all, length-offs, rows-more, rows-up, rows-le, length-table}
 
 module _ (row : ℕ → List ℕ) (n : ℕ) (rest : List ℕ) where
@@ -105,3 +107,26 @@ module _ (m : Mesh) (n u : ℕ) where
   row-has v l e t =
       place-of (neighboursOf m n u)
       (keep-has (nearBy (λ u v. together m (u ∷ v ∷ [])) u) (upTo n) (from-has 0 n v (omega arith) (omega arith)) (rw (e, t)))
+
+-- the same of the entries that stand in the table
+module _ {m : Mesh} {n : ℕ} {table : List ℕ} {u : ℕ} {r : Row} (w : RowOf m n table u r) where
+  size : length (entriesOf table r) ≡ r .size
+  size =
+      length-take-le (r .from + r .size - r .from) (drop (r .from) table) (omega (arith, w .inside, length-drop (r .from) table))
+      ∙ omega arith
+
+  entry : u < n → (i : ℕ) → i < length (neighboursOf m n u) → getD (entriesOf table r) i 0 ≡ getD (neighboursOf m n u) i 0
+  entry b i e =
+      getD-take (r .from + r .size - r .from) (drop (r .from) table) i 0 (omega (arith, w .whole b))
+      ∙ getD-drop (r .from) table i 0 ∙ w .entries b i (omega (arith, w .whole b))
+
+  pub entries-rise : (i j : ℕ) → i < j → j < length (entriesOf table r) → getD (entriesOf table r) i 0 < getD (entriesOf table r) j 0
+  entries-rise i j a b = elim (decLt u n) [
+    | yes l ↦
+        let z = row-rises m n u i j a (omega (arith, b, size, w .whole l)) in
+        omega (arith, z, entry l i (omega (arith, a, b, size, w .whole l)), entry l j (omega (arith, b, size, w .whole l)))
+    | no l ↦ absurd (let o : ⊥ = omega (arith, b, size, w .empty (omega arith)) in o)
+  ]
+
+  pub entries-have : {v : ℕ} → u < n → v < n → eqb u v ≡ false → together m (u ∷ v ∷ []) ≡ true → (i : ℕ) × (i < length (entriesOf table r)) × (getD (entriesOf table r) i 0 ≡ v)
+  entries-have {v} l h z t = let f = row-has m n u v h z t in (f .0, omega (arith, f .1, size, w .whole l), entry l (f .0) (f .1) ∙ f .2)

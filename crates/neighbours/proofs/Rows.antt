@@ -1,9 +1,9 @@
--- One more number, row or offset: what a turn of each loop adds. Assumes nothing.
+-- One more number, block, row or offset: what a turn of each loop adds. Assumes nothing.
 use mathlib.Core.Path.{_≡_, refl, sym, _∙_, ap, fun-ext}
-use mathlib.Core.Bool.{Bool, true, false, cond, not, _&&_}
-use mathlib.Core.List.{List, [], _∷_, _++_, map, append-assoc, append-nil}
+use mathlib.Core.Bool.{Bool, true, false, cond, not, _&&_, and-false}
+use mathlib.Core.List.{List, [], _∷_, _++_, map, append-nil}
 use Prim.Native.Nat.{ℕ, zero, suc, _+_, _-_, _≤_, _<_}
-use native.Mathlib.Nat.{zero-add, add-zero, suc-add, add-suc}
+use native.Mathlib.Nat.{zero-add}
 use native.Mathlib.Numerals.{add-one}
 use native.Mathlib.Omega.{arith}
 use lib.Dec.{eqb}
@@ -13,35 +13,52 @@ use Rattle.base.proofs.Lists.{keep-append}
 use Rattle.base.proofs.Loop.{length-from}
 use Rattle.base.proofs.Runs.{spread-append, map-append, from-add, upTo-more, keep-same}
 use Rattle.neighbours.specs.Table.{rowOf, rowsOf, offsets, tableBy}
-use Rattle.neighbours.specs.Marks.{nearBy}
+use Rattle.neighbours.specs.Marks.{nearBy, partOf}
+
+-- ---- a part of a row
+module _ (f : ℕ → ℕ → Bool) (u v : ℕ) where
+  pub part-none : partOf f u v 0 ≡ []
+  unfolding keep
+  part-none = refl
+
+  pub part-add : (j k : ℕ) → partOf f u v (j + k) ≡ partOf f u v j ++ partOf f u (v + j) k
+  part-add j k = ap (keep (nearBy f u)) (from-add v j k) ∙ keep-append (nearBy f u) (from v j) (from (v + j) k)
+
+  part-more : (j : ℕ) → partOf f u v (j + 1) ≡ partOf f u v j ++ cond (nearBy f u (v + j)) ((v + j) ∷ []) []
+  unfolding keep
+  part-more j = part-add j 1
+
+  pub part-yes : (j : ℕ) → nearBy f u (v + j) ≡ true → partOf f u v (j + 1) ≡ partOf f u v j ++ (v + j) ∷ []
+  part-yes j h = part-more j ∙ ap (λ b. partOf f u v j ++ cond b ((v + j) ∷ []) []) h
+
+  pub part-no : (j : ℕ) → nearBy f u (v + j) ≡ false → partOf f u v (j + 1) ≡ partOf f u v j
+  part-no j h = part-more j ∙ ap (λ b. partOf f u v j ++ cond b ((v + j) ∷ []) []) h ∙ append-nil (partOf f u v j)
+
+  pub part-le : (j k : ℕ) → j ≤ k → length (partOf f u v j) ≤ length (partOf f u v k)
+  part-le j k h =
+      let e : k ≡ j + (k - j) = omega arith in
+      omega (arith, ap (λ i. length (partOf f u v i)) e, ap length (part-add j (k - j)), length-append (partOf f u v j) (partOf f u (v + j) (k - j)))
+
+  -- no mark, no entry
+  pub part-blank : (k : ℕ) → ((i : ℕ) → i < k → f u (v + i) ≡ false) → partOf f u v k ≡ []
+  part-blank zero h = part-none
+  part-blank (suc k) h =
+      let n : nearBy f u (v + k) ≡ false = ap (λ t. not (eqb u (v + k)) && t) (h k (omega arith)) ∙ and-false (not (eqb u (v + k))) in
+      ap (partOf f u v) (sym (add-one k)) ∙ part-no k n ∙ part-blank k (λ i l. h i (omega arith))
 
 -- ---- a row
-module _ (f : ℕ → ℕ → Bool) (u v : ℕ) where
-  row-more : rowOf f (v + 1) u ≡ rowOf f v u ++ cond (nearBy f u v) (v ∷ []) []
-  unfolding rowOf keep
-  row-more = ap (keep (nearBy f u)) (upTo-more v) ∙ keep-append (nearBy f u) (upTo v) (v ∷ [])
+module _ (f : ℕ → ℕ → Bool) (u : ℕ) where
+  pub row-none : rowOf f 0 u ≡ []
+  unfolding rowOf
+  row-none = part-none f u 0
 
-  pub row-yes : nearBy f u v ≡ true → rowOf f (v + 1) u ≡ rowOf f v u ++ v ∷ []
-  row-yes h = row-more ∙ ap (λ b. rowOf f v u ++ cond b (v ∷ []) []) h
+  pub row-add : (v k : ℕ) → rowOf f (v + k) u ≡ rowOf f v u ++ partOf f u v k
+  unfolding rowOf
+  row-add v k = part-add f u 0 v k ∙ ap (λ w. rowOf f v u ++ partOf f u w k) (zero-add v)
 
-  pub row-no : nearBy f u v ≡ false → rowOf f (v + 1) u ≡ rowOf f v u
-  row-no h = row-more ∙ ap (λ b. rowOf f v u ++ cond b (v ∷ []) []) h ∙ append-nil (rowOf f v u)
-
-pub row-none : (f : ℕ → ℕ → Bool) (u : ℕ) → rowOf f 0 u ≡ []
-unfolding rowOf keep
-row-none f u = refl
-
-pub row-le : (f : ℕ → ℕ → Bool) (u v n : ℕ) → v ≤ n → length (rowOf f v u) ≤ length (rowOf f n u)
-unfolding rowOf
-row-le f u v n h =
-    let e : n ≡ v + (n - v) = omega arith in
-    let a = ap (λ k. length (rowOf f k u)) e in
-    let b = ap (λ l. length (keep (nearBy f u) l)) (from-add 0 v (n - v)) in
-    let d = ap length (keep-append (nearBy f u) (upTo v) (from (0 + v) (n - v))) in
-    omega (arith, a, b, d, length-append (rowOf f v u) (keep (nearBy f u) (from (0 + v) (n - v))))
-
-pub row-room : (f : ℕ → ℕ → Bool) (u v n : ℕ) → nearBy f u v ≡ true → v < n → length (rowOf f v u) < length (rowOf f n u)
-row-room f u v n h l = omega (arith, ap length (row-yes f u v h), length-append (rowOf f v u) (v ∷ []), row-le f u (v + 1) n (omega arith))
+  pub row-room : (v k n : ℕ) → v + k ≤ n → length (rowOf f v u) + length (partOf f u v k) ≤ length (rowOf f n u)
+  unfolding rowOf
+  row-room v k n h = omega (arith, ap length (row-add v k), length-append (rowOf f v u) (partOf f u v k), part-le f u 0 (v + k) n h)
 
 -- ---- rows
 module _ (row : ℕ → List ℕ) where

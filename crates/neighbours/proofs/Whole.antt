@@ -7,16 +7,18 @@ use native.Mathlib.Omega.{arith}
 use borrow.Author.Tests.{lt-ltb, le-ltb}
 use lib.Dec.{ltb}
 use lib.IntN.{ℤ}
-use lib.ListN.{length, drop, replicate}
+use lib.ListN.{length, take, drop, replicate}
 use Rattle.base.specs.Laid.{Laid}
 use Rattle.base.proofs.Lay.{lay-front}
 use Rattle.space.specs.Mesh.{Mesh}
 use Rattle.space.specs.Arrays.{meshOf}
 use Rattle.neighbours.specs.declared.Filled.{Filled}
 use Rattle.neighbours.specs.declared.Filled.the-variants.{Entries, Short}
-use Rattle.neighbours.specs.Table.{rowOf, rowsOf, tableBy, tableOf, filledOf, tableAfter}
+use Rattle.neighbours.specs.Table.{rowOf, rowsOf, offsets, tableBy, tableOf, filledOf, tableAfter}
+use Rattle.neighbours.specs.Grown.{Grown}
 use Rattle.neighbours.specs.Marks.{near, hit, Adds, Few}
 use Rattle.neighbours.proofs.Rows.{row-same, length-table}
+use Rattle.neighbours.proofs.Growing.{grown-all}
 use Rattle.neighbours.proofs.Marking.{hit-none}
 use Rattle.neighbours.proofs.Law.{few}
 use Rattle.neighbours.proofs.Tets.{near-table}
@@ -26,11 +28,17 @@ module _ (l : List ℕ) (n : ℕ) {m : List ℕ} (small : n ≤ 512) (a : Adds (
   rows : rowOf (hit m) n ≡ rowOf (near l (length l / 4)) n
   rows = row-same (hit m) (near l (length l / 4)) n small (λ x y h. a .at x y h ∙ ap (λ t. t || near l (length l / 4) x y) (hit-none 262144 x y))
 
-  pub table-same : tableBy (rowOf (hit m) n) n ≡ tableOf (meshOf [] l []) n
+  table-same : tableBy (rowOf (hit m) n) n ≡ tableOf (meshOf [] l []) n
   table-same = ap (λ r. tableBy r n) rows ∙ near-table [] l [] n
 
-  pub size-same : n + 1 + length (rowsOf (rowOf (hit m) n) n) ≡ length (tableOf (meshOf [] l []) n)
-  size-same = sym (length-table (rowOf (hit m) n) n) ∙ ap length table-same
+  pub size-grown : {e : ℕ} {w₀ w : List ℕ} → Grown 0 e (rowsOf (rowOf (hit m) n) n) w₀ w → n + 1 + e ≡ length (tableOf (meshOf [] l []) n)
+  size-grown h = omega (arith, h .ends, length-table (rowOf (hit m) n) n, ap length table-same)
+
+  -- what the two rooms hold is the table
+  pub table-grown : {e : ℕ} {s₀ s w₀ w : List ℕ} → Grown 0 (n + 1) (offsets (rowOf (hit m) n) n) s₀ s → Grown 0 e (rowsOf (rowOf (hit m) n) n) w₀ w
+      → take (n + 1) s ++ take e w ≡ tableOf (meshOf [] l []) n
+  unfolding tableBy
+  table-grown g h = rw (grown-all g, grown-all h) table-same
 
   pub marks-few : length l ≤ 8192 → Few (rowOf (hit m) n)
   marks-few h = rw rows (few l n h)

@@ -1,3 +1,4 @@
 pub mod Table
+pub mod Grown
 pub mod Marks
 pub mod Reading

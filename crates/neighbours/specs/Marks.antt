@@ -6,6 +6,7 @@ use mathlib.Core.Bool.{Bool, false, not, _&&_, _||_}
 use mathlib.Core.List.{List}
 use lib.Dec.{eqb}
 use lib.ListN.{length, getD}
+use Rattle.base.specs.Lists.{keep, from}
 use Rattle.neighbours.specs.Table.{rowsOf}
 
 -- x is one of the four
@@ -25,6 +26,10 @@ near l (suc t) u v = near l t u v || (ofTet l t v && ofTet l t u)
 unfoldable pub hit : List ℕ → ℕ → ℕ → Bool
 hit m u v = not (eqb (getD m (u * 512 + v) 0) 0)
 
+-- there is no mark at u and any of the k vertices from v on
+abbrev pub Blank : List ℕ → ℕ → ℕ → ℕ → Type 0
+Blank m u v k = (i : ℕ) → i < k → hit m u (v + i) ≡ false
+
 -- m′ has the marks of m and those that f says
 pub record Adds (m m′ : List ℕ) (f : ℕ → ℕ → Bool) : Type 0 where
   pub same : length m′ ≡ length m
@@ -42,6 +47,10 @@ square a b c d x y = isOne a b c d y && isOne a b c d x
 -- f says that v is next to u, and they differ
 abbrev pub nearBy : (ℕ → ℕ → Bool) → ℕ → ℕ → Bool
 nearBy f u v = not (eqb u v) && f u v
+
+-- of the k vertices from v on, those that f says are next to u, and u not
+abbrev pub partOf : (ℕ → ℕ → Bool) → ℕ → ℕ → ℕ → List ℕ
+partOf f u v k = keep (nearBy f u) (from v k)
 
 -- the offsets fit 16 bits
 abbrev pub Few : (ℕ → List ℕ) → Type 0

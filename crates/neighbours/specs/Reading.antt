@@ -1,9 +1,9 @@
 -- What a reader of a neighbour table relies on.
 -- Assumes nothing.
-use Prim.Native.Nat.{ℕ, _+_, _<_, _≤_}
+use Prim.Native.Nat.{ℕ, _+_, _-_, _<_, _≤_}
 use mathlib.Core.Path.{_≡_}
 use mathlib.Core.List.{List, _++_}
-use lib.ListN.{length, getD}
+use lib.ListN.{length, getD, take, drop}
 use Rattle.space.specs.Mesh.{Mesh}
 use Rattle.neighbours.specs.declared.Row.{Row}
 use Rattle.neighbours.specs.Table.{neighboursOf, tableOf}
@@ -19,3 +19,7 @@ pub record RowOf (m : Mesh) (n : ℕ) (table : List ℕ) (v : ℕ) (r : Row) : T
   pub empty : n ≤ v → r .size ≡ 0
   pub whole : v < n → r .size ≡ length (neighboursOf m n v)
   pub entries : v < n → (i : ℕ) → i < r .size → getD table (r .from + i) 0 ≡ getD (neighboursOf m n v) i 0
+
+-- the entries of a row of the table
+abbrev pub entriesOf : List ℕ → Row → List ℕ
+entriesOf table r = take (r .from + r .size - r .from) (drop (r .from) table)

@@ -1,16 +1,17 @@
 // The neighbour table of a mesh, from the vertex numbers of its tetrahedra, written into a lent slice.
 use space::Vertex;
 ghost use mathlib.Core.Path.{_≡_};
-ghost use mathlib.Core.List.{[]};
-ghost use mathlib.Core.Bool.{cond};
+ghost use mathlib.Core.List.{[], _++_};
+ghost use mathlib.Core.Bool.{true, cond};
 ghost use Prim.Native.Nat.{ℕ, _+_, _*_, _/_, _<_, _≤_};
 ghost use lib.ListN.{length, getD};
 ghost use Rattle.base.specs.Laid.{Laid};
 ghost use Rattle.space.specs.Arrays.{meshOf};
 ghost use Rattle.around.specs.Index.{Labelled};
-ghost use Rattle.neighbours.specs.Table.{rowOf, rowsOf, offsets, tableBy, filledOf, tableAfter};
+ghost use Rattle.neighbours.specs.Table.{rowOf, rowsOf, offsets, filledOf, tableAfter};
+ghost use Rattle.neighbours.specs.Grown.{Grown};
 ghost use Rattle.neighbours.specs.Reading.{Tabled, RowOf};
-ghost use Rattle.neighbours.specs.Marks.{near, hit, Adds, point, line, square, Few, nearBy};
+ghost use Rattle.neighbours.specs.Marks.{near, hit, Adds, point, line, square, Few, nearBy, Blank, partOf};
 
 // A row of the table: where it starts, and how many entries it has.
 pub struct Row {
@@ -94,85 +95,102 @@ fn is_near(m: &[u8; 262144], u: usize, v: usize) -> bool
     m[u * 512 + v] != 0
 }
 
-fn degree(m: &[u8; 262144], n: usize, u: usize) -> usize
-    requires { ⌜ (u < 512) × (n ≤ 512) ⌝ }
-    ensures { λ r. ⌜ r ≡ length (rowOf (hit (now (m .entry))) n u) ⌝ }
+// Whether row u has no mark at the 16 vertices from v on. No place is tested alone, so that the compiler reads all 16 at once.
+fn is_blank(m: &[u8; 262144], u: usize, v: usize) -> bool
+    requires { ⌜ (u < 512) × (v + 16 ≤ 512) ⌝ }
+    ensures { λ r. ⌜ (r ≡ true → Blank (now (m .entry)) u v 16) ⌝ }
 {
-    let mut k = 0;
-    let mut v = 0;
-    while v < n {
-        if is_near(m, u, v) {
-            k += 1;
-        }
-        v += 1;
+    let from = u * 512 + v;
+    let mut x = 0;
+    let mut i = 0;
+    while i < 16 {
+        x = x | m[from + i];
+        i += 1;
     }
-    k
+    x == 0
 }
 
-// How many neighbours the vertices have in all.
-fn total(m: &[u8; 262144], n: usize) -> usize
-    requires { ⌜ (n ≤ 512) × Few (rowOf (hit (now m)) n) ⌝ }
-    ensures { λ r. ⌜ r ≡ length (rowsOf (rowOf (hit (now (m .entry))) n) n) ⌝ }
-{
-    let mut e = 0;
-    let mut u = 0;
-    while u < n {
-        e += degree(m, n, u);
-        u += 1;
-    }
-    e
-}
-
-fn put_offsets(m: &[u8; 262144], n: usize, table: &mut [u16])
-    requires { ⌜ ((n ≤ 512) × (n < length (now table))) × Few (rowOf (hit (now m)) n) ⌝ }
-    ensures { λ r. ⌜ Laid 0 (offsets (rowOf (hit (now (m .entry))) n) n) (now (table .entry)) (now (table .exit)) ⌝ }
-{
-    let mut off = 0;
-    let mut u = 0;
-    while u < n {
-        table[u] = off as u16;
-        off += degree(m, n, u);
-        u += 1;
-    }
-    table[n] = off as u16;
-}
-
-// Writes one row from `from` on; the answer is where the next one goes.
-fn put_row(m: &[u8; 262144], n: usize, u: usize, table: &mut [u16], from: usize) -> usize
-    requires { ⌜ ((u < 512) × (n ≤ 512)) × (from + length (rowOf (hit (now m)) n u) ≤ length (now table)) ⌝ }
-    ensures at { λ r. ⌜ r ≡ from + length (rowOf (hit (now (m .entry))) n u) ⌝ }
-    ensures row { λ r. ⌜ Laid from (rowOf (hit (now (m .entry))) n u) (now (table .entry)) (now (table .exit)) ⌝ }
+// Writes from `from` on those of the k vertices from v on that are next to u; the answer is where the next entry goes.
+// Every vertex is written, and counted where it is next to u: a branch would be slower. What stands behind the answer is not told.
+fn put_part(m: &[u8; 262144], u: usize, v: usize, k: usize, rows: &mut [u16], from: usize) -> usize
+    requires { ⌜ ((u < 512) × (v + k ≤ 512)) × (from + length (partOf (hit (now m)) u v k) < length (now rows)) ⌝ }
+    ensures { λ r. ⌜ Grown from r (partOf (hit (now (m .entry))) u v k) (now (rows .entry)) (now (rows .exit)) ⌝ }
 {
     let mut at = from;
-    let mut v = 0;
-    while v < n {
-        if is_near(m, u, v) {
-            table[at] = v as u16;
+    let mut i = 0;
+    while i < k {
+        let w = v + i;
+        rows[at] = w as u16;
+        if is_near(m, u, w) {
             at += 1;
         }
-        v += 1;
+        i += 1;
     }
     at
 }
 
-fn put_rows(m: &[u8; 262144], n: usize, table: &mut [u16])
-    requires { ⌜ (n ≤ 512) × (n + 1 + length (rowsOf (rowOf (hit (now m)) n) n) ≤ length (now table)) ⌝ }
-    ensures { λ r. ⌜ Laid (n + 1) (rowsOf (rowOf (hit (now (m .entry))) n) n) (now (table .entry)) (now (table .exit)) ⌝ }
+// The same for 16 vertices at once: most blocks of a row have no mark.
+fn put_block(m: &[u8; 262144], u: usize, v: usize, rows: &mut [u16], from: usize) -> usize
+    requires { ⌜ ((u < 512) × (v + 16 ≤ 512)) × (from + length (partOf (hit (now m)) u v 16) < length (now rows)) ⌝ }
+    ensures { λ r. ⌜ Grown from r (partOf (hit (now (m .entry))) u v 16) (now (rows .entry)) (now (rows .exit)) ⌝ }
 {
-    let mut at = n + 1;
+    if is_blank(m, u, v) {
+        return from;
+    }
+    put_part(m, u, v, 16, rows, from)
+}
+
+// Writes one row from `from` on: whole blocks, then the vertices that are left.
+fn put_row(m: &[u8; 262144], n: usize, u: usize, rows: &mut [u16], from: usize) -> usize
+    requires { ⌜ ((u < 512) × (n ≤ 512)) × (from + length (rowOf (hit (now m)) n u) < length (now rows)) ⌝ }
+    ensures { λ r. ⌜ Grown from r (rowOf (hit (now (m .entry))) n u) (now (rows .entry)) (now (rows .exit)) ⌝ }
+{
+    let mut at = from;
+    let mut v = 0;
+    while v + 16 <= n {
+        at = put_block(m, u, v, rows, at);
+        v += 16;
+    }
+    put_part(m, u, v, n - v, rows, at)
+}
+
+// Writes all rows, and where each starts; the answer is how many entries they have.
+fn put_rows(m: &[u8; 262144], n: usize, starts: &mut [u16], rows: &mut [u16]) -> usize
+    requires { ⌜ ((n ≤ 512) × (n < length (now starts))) × ((24576 < length (now rows)) × Few (rowOf (hit (now m)) n)) ⌝ }
+    ensures offsets { λ r. ⌜ Grown 0 (n + 1) (offsets (rowOf (hit (now (m .entry))) n) n) (now (starts .entry)) (now (starts .exit)) ⌝ }
+    ensures entries { λ r. ⌜ Grown 0 r (rowsOf (rowOf (hit (now (m .entry))) n) n) (now (rows .entry)) (now (rows .exit)) ⌝ }
+{
+    let mut at = 0;
     let mut u = 0;
     while u < n {
-        at = put_row(m, n, u, table, at);
+        starts[u] = at as u16;
+        at = put_row(m, n, u, rows, at);
         u += 1;
+    }
+    starts[n] = at as u16;
+    at
+}
+
+// ---- the table
+
+// Writes a list from a place on. Records are written by it too.
+pub fn put(table: &mut [u16], from: usize, list: &[u16])
+    requires { ⌜ from + length (now list) ≤ length (now table) ⌝ }
+    ensures { λ r. ⌜ Laid from (now (list .entry)) (now (table .entry)) (now (table .exit)) ⌝ }
+{
+    let mut i = 0;
+    while i < list.len() {
+        table[from + i] = list[i];
+        i += 1;
     }
 }
 
-fn put_table(m: &[u8; 262144], n: usize, table: &mut [u16])
-    requires { ⌜ ((n ≤ 512) × (n + 1 + length (rowsOf (rowOf (hit (now m)) n) n) ≤ length (now table))) × Few (rowOf (hit (now m)) n) ⌝ }
-    ensures { λ r. ⌜ Laid 0 (tableBy (rowOf (hit (now (m .entry))) n) n) (now (table .entry)) (now (table .exit)) ⌝ }
+fn put_table(starts: &[u16], rows: &[u16], table: &mut [u16])
+    requires { ⌜ length (now starts) + length (now rows) ≤ length (now table) ⌝ }
+    ensures { λ r. ⌜ Laid 0 (now (starts .entry) ++ now (rows .entry)) (now (table .entry)) (now (table .exit)) ⌝ }
 {
-    put_offsets(m, n, table);
-    put_rows(m, n, table);
+    put(table, 0, starts);
+    put(table, starts.len(), rows);
 }
 
 // Whether the slice has room for the neighbour table of n vertices; the table is written where it has, if it is wanted.
@@ -183,12 +201,16 @@ pub fn fill_if(labels: &[u16], n: usize, wanted: bool, table: &mut [u16]) -> Fil
 {
     let mut m = [0u8; 262144];
     mark_all(&mut m, labels);
-    let size = n + 1 + total(&m, n);
+    // The table is made here, since the slice must stay as it is where it is too short. A row's writing needs one entry more than it fills.
+    let mut starts = [0u16; 513];
+    let mut rows = [0u16; 24577];
+    let e = put_rows(&m, n, &mut starts, &mut rows);
+    let size = n + 1 + e;
     if table.len() < size {
         return Filled::Short;
     }
     if wanted {
-        put_table(&m, n, table);
+        put_table(&starts[..n + 1], &rows[..e], table);
     }
     Filled::Entries(size)
 }

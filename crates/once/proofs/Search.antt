@@ -2,7 +2,6 @@
 -- Assumes nothing.
 use Prim.Native.Nat.{ℕ, suc, _<_}
 use mathlib.Core.Path.{_≡_, refl, sym, _∙_, ap, ap₂, fun-ext}
-use mathlib.Core.Logic.{⊎-elim}
 use mathlib.Core.Bool.{Bool, true, false, cond, _&&_, _||_}
 use mathlib.Core.List.{List, [], _∷_, _++_, map, append-assoc, append-nil}
 use lib.Dec.{ltb}
@@ -16,7 +15,8 @@ use Rattle.space.specs.Mesh.{Mesh, together}
 use Rattle.cells.specs.Cells.{isCell, hasEdges, isTuple, hasFaces, isSound, isFilled, isOnePart, numbersOf}
 use Rattle.cells.specs.Full.{cell, allowed, grow, universe, cellsOf, fullList}
 use Rattle.once.specs.Pruned.{linked, found, foundAll}
-use Rattle.templates.proofs.Tests.{equal-eq, either}
+use Rattle.templates.proofs.Tests.{equal-eq}
+use Rattle.base.proofs.Bools.{or-either}
 use Rattle.base.proofs.Lists.{both-left, both-right, fails, all-at, all-from, any-at, keep-map, keep-spread, spread-keep, spread-ext, spread-none}
 
 -- ---- leaving out what no cell goes on from
@@ -107,10 +107,9 @@ module _ (m : Mesh) (es : List (List ℕ)) (s : List ℕ) (v : ℕ) (u : List �
           let e = any-at _ es (both-right (ltb j k) _ t) in
           let g : together m (at whole (e .0)) ≡ true = all-at _ es h (e .1) in
           let ends : together m (getD whole j 0 ∷ getD whole k 0 ∷ []) ≡ together m (getD s j 0 ∷ v ∷ []) = ap₂ (λ a b. together m (a ∷ b ∷ [])) (at-earlier j less) at-new in
-          ⊎-elim
+          or-either (equal (e .0) (j ∷ k ∷ [])) (equal (e .0) (k ∷ j ∷ [])) (e .2)
           (λ w. sym ends ∙ ap (λ x. together m (at whole x)) (sym (equal-eq (e .0) (j ∷ k ∷ []) w)) ∙ g)
           (λ w. sym ends ∙ together-swap m _ _ ∙ ap (λ x. together m (at whole x)) (sym (equal-eq (e .0) (k ∷ j ∷ []) w)) ∙ g)
-          (either (equal (e .0) (j ∷ k ∷ [])) (equal (e .0) (k ∷ j ∷ [])) (e .2))
 
 -- ---- the templates
 

@@ -2,20 +2,20 @@
 -- Assumes nothing.
 use Prim.Native.Nat.{ℕ, suc}
 use mathlib.Core.Path.{_≡_, refl, sym, _∙_, ap, ap₂, fun-ext}
-use mathlib.Core.Logic.{⊎-elim}
 use mathlib.Core.Bool.{Bool, true, not, _&&_, _||_}
 use mathlib.Core.List.{List, [], _∷_, List·Memᴰ, List·Memᴰ·head, List·Memᴰ·tail}
 use lib.Dec.{eqb}
 use lib.IntN.{ℤ, negℤ}
 use lib.ListN.{length, getD}
 use Rattle.base.specs.Lists.{all, any, every, keep, count, spread, isIn, equal}
+use Rattle.base.proofs.Bools.{or-either}
 use Rattle.base.proofs.Lists.{both-left, both-right, all-at, any-at}
 use Rattle.space.specs.declared.Point.{Point}
 use Rattle.space.specs.Box.{from, box, isAbove0}
 use Rattle.space.specs.Mesh.{Mesh, Tetrahedron, point, holds, together}
 use Rattle.space.proofs.Det.{det-on, det-swap}
 use Rattle.templates.specs.Tables.{Template, templates, at}
-use Rattle.templates.proofs.Tests.{equal-eq, part, either, or-comm, covers, all-over, any-over, inRange, at-at}
+use Rattle.templates.proofs.Tests.{equal-eq, part, or-comm, covers, all-over, any-over, inRange, at-at}
 use Rattle.templates.proofs.Turns.{goesTo, cornerTo, even, odd, cornerTests, tableTests, keeps, row-keeps, row-corners, goes-all, goes-any, size, corners-all, corners-any, turned-length, turned-distinct}
 use Rattle.cells.specs.Cells.{first, second, corner3, inside, one, noneOrTwo, isTuple, hasEdges, isFacet, isSplit, hasFaces, boxAt, isSound, belongs, tetsOf, numbersFrom, numbersOf, sides, isOnce, isPaired, isCovered, isFilledBy, isFilled, isOnePart, isCell}
 use Rattle.once.specs.Turned.{Same}
@@ -123,10 +123,9 @@ module _ (t : Template) (r c : List ℕ) (k : keeps t r ≡ true) (g : every (fa
     diagonals : {X : Type 0} (f : X → X → Bool) → ((x y : X) → f x y ≡ f y x) → (g h : List (List ℕ) → X) → ((xs ys : List (List ℕ)) → covers (goesTo r) xs ys ≡ true → g xs ≡ h ys) → (q p : List ℕ) → quadTo r q p ≡ true → f (g (first q)) (g (second q)) ≡ f (h (first p)) (h (second p))
     unfolding quadTo
     diagonals f s g h w q p e =
-        ⊎-elim
+        or-either (covers (goesTo r) (first q) (first p) && covers (goesTo r) (second q) (second p)) _ e
         (λ z. ap₂ f (w _ _ (both-left (covers (goesTo r) (first q) (first p)) _ z)) (w _ _ (both-right (covers (goesTo r) (first q) (first p)) _ z)))
         (λ z. ap₂ f (w _ _ (both-left (covers (goesTo r) (first q) (second p)) _ z)) (w _ _ (both-right (covers (goesTo r) (first q) (second p)) _ z)) ∙ s _ _)
-        (either (covers (goesTo r) (first q) (first p) && covers (goesTo r) (second q) (second p)) _ e)
 
     triangles : covers (goesTo r) (t .triangles) (t .triangles) ≡ true
     unfolding keeps tableTests

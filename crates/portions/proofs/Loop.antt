@@ -5,15 +5,16 @@ use mathlib.Core.Path.{_≡_, refl, sym, _∙_, ap, ap₂, subst}
 use mathlib.Core.Logic.{⊎-elim}
 use mathlib.Core.Bool.{Bool, true, false, true≢false}
 use mathlib.Core.List.{List, [], _∷_, _++_, append-assoc, append-nil, List·Memᴰ, List·Memᴰ·head, List·Memᴰ·cases-cons, List·Memᴰ·not-nil, nil≢cons, head-eq-of-cons-eq}
+use lib.Dec.{ltb}
 use lib.ListN.{length, take, length-append}
 use lib.Seq.{take-all, take-at, take-append-add}
 use native.Mathlib.Omega.{arith}
 use native.Mathlib.Nat.{suc-mul, zero-add, le-div-iff-mul-le}
-use borrow.Author.Tests.{lt-ltb, le-ltb, le-leb, lt-leb}
+use borrow.Author.Tests.{lt-ltb, le-ltb, le-leb, lt-leb, ltb-true}
 use Rattle.base.specs.Lists.{all, leading, spread}
 use Rattle.base.specs.Laid.{Laid}
 use Rattle.base.proofs.Lay.{laid-none, laid-more, laid-as}
-use Rattle.portions.specs.Portions.{rises, Rule, Answer, refused, given, reply, isAfter, after, records, lastMark, portionOf, portion, Lawful}
+use Rattle.portions.specs.Portions.{rises, Rule, Answer, refused, given, reply, isAfter, after, remains, records, lastMark, portionOf, portion, Lawful}
 use Rattle.portions.specs.Run.{Outcome}
 use Rattle.portions.specs.Steps.{Next, Under, Come}
 use Rattle.base.proofs.Lists.{both-left, both-right, all-at}
@@ -65,6 +66,32 @@ module _ {A : Type 0} (rule : Rule A) (full : List A) (law : Lawful rule full) w
       never : (b : Bool) (d : A) → isAfter rule k d ≡ b → List·Memᴰ d full → b ≡ false
       never true d e h = absurd (x .none refl d h e)
       never false d e h = refl
+
+  some-one : (c : A) (cs : List A) → ltb 0 (length (c ∷ cs)) ≡ true
+  some-one c cs = lt-ltb 0 (length (c ∷ cs)) (omega arith)
+
+  -- what a search found is whether any cell remains
+  pub next-remains : {k : List ℕ} {found : Bool} {c : A} → Next rule full k found c → found ≡ remains rule full k
+  unfolding remains
+  next-remains {found = true} {c = c} x = sym (ap (λ l. ltb 0 (length l)) (next-found x) ∙ some-one c (after rule full (rule .mark c)))
+  next-remains {found = false} x = sym (ap (λ l. ltb 0 (length l)) (next-none x))
+
+  -- a cell that comes after the mark remains
+  pub later-remains : (k : List ℕ) (d : A) → List·Memᴰ d full → isAfter rule k d ≡ true → remains rule full k ≡ true
+  unfolding remains after
+  later-remains k d h e = go (after rule full k) (keep-has (isAfter rule k) full h e)
+    where
+      go : (l : List A) → List·Memᴰ d l → ltb 0 (length l) ≡ true
+      go [] h = absurd (List·Memᴰ·not-nil h)
+      go (x ∷ l) h = some-one x l
+
+  none-left : (k : List ℕ) → remains rule full k ≡ false → after rule full k ≡ []
+  unfolding remains
+  none-left k e = go (after rule full k) e
+    where
+      go : (l : List A) → ltb 0 (length l) ≡ false → l ≡ []
+      go [] e = refl
+      go (x ∷ l) e = absurd (true≢false (sym (some-one x l) ∙ e))
 
   -- two searches that keep this promise say the same
   pub next-same : {k : List ℕ} {f g : Bool} {c d : A} → Next rule full k f c → Next rule full k g d → (f ≡ g) × (f ≡ true → c ≡ d)
@@ -122,21 +149,20 @@ module _ {A : Type 0} (rule : Rule A) (full : List A) (law : Lawful rule full) w
     is-first = rw (le-ltb room (rule .size) wide) (ap (λ l. portionOf rule k l (room / rule .size)) (u .split))
 
     -- no cell is left: the end is told
-    pub portion-none : {c : A} → Next rule full j false c → portion rule full k room ≡ reply (given (length done) true (rule .end)) (records rule done)
+    pub portion-none : remains rule full j ≡ false → portion rule full k room ≡ reply (given (length done) true (rule .end)) (records rule done)
     unfolding portionOf
     portion-none x =
-        let e : done ++ after rule full j ≡ done = ap (λ r. done ++ r) (next-none x) ∙ append-nil done in
+        let e : done ++ after rule full j ≡ done = ap (λ r. done ++ r) (none-left j x) ∙ append-nil done in
         is-first ∙ ap (λ l. portionOf rule k l (room / rule .size)) e ∙ rw (take-all (room / rule .size) done (u .within), u .fit, le-leb _ _ (u .within))
 
     -- a cell is left and the room is full: the end is not told
-    pub portion-full : {c : A} → Next rule full j true c → length done ≡ room / rule .size → portion rule full k room ≡ reply (given (length done) false j) (records rule done)
-    unfolding portionOf
-    portion-full {c} x l =
-        let rest = after rule full (rule .mark c) in
-        let e : length (done ++ (c ∷ rest)) ≡ length done + suc (length rest) = length-append done (c ∷ rest) in
+    pub portion-full : remains rule full j ≡ true → length done ≡ room / rule .size → portion rule full k room ≡ reply (given (length done) false j) (records rule done)
+    unfolding portionOf remains
+    portion-full x l =
+        let rest = after rule full j in
+        let e : length (done ++ rest) ≡ length done + length rest = length-append done rest in
         is-first
-        ∙ ap (λ r. portionOf rule k (done ++ r) (room / rule .size)) (next-found x)
-        ∙ rw (take-at done (c ∷ rest) (room / rule .size) l, u .fit, lt-leb (length (done ++ (c ∷ rest))) (room / rule .size) (omega arith), ← u .reached)
+        ∙ rw (take-at done rest (room / rule .size) l, u .fit, lt-leb (length (done ++ rest)) (room / rule .size) (omega (arith, ltb-true 0 (length rest) x)), ← u .reached)
 
     -- a cell is left, with room for it, that no record can hold
     pub portion-long : {c : A} → Next rule full j true c → length done < room / rule .size → rule .fits c ≡ false → portion rule full k room ≡ reply (refused 12) (records rule done)
@@ -186,15 +212,15 @@ module _ {A : Type 0} (rule : Rule A) (full : List A) (law : Lawful rule full) w
     ends-with : {a b : Answer} → portion rule full k (length old) ≡ reply a (records rule (x .done)) → a ≡ b → Outcome rule full k old b l
     ends-with e q = record { answered = sym q ∙ ap (λ p. p .answer) (sym e); stored = laid-as (x .laid) (ap (λ p. p .written) (sym e)) }
 
-    module _ (wide : rule .size ≤ length old) {found : Bool} {c : A} (n : Next rule full j found c) where
+    module _ (wide : rule .size ≤ length old) {left : Bool} (n : left ≡ remains rule full j) where
       -- no cell is left: the end is told
-      pub outcome-none : found ≡ false → Outcome rule full k old (given i true (rule .end)) l
-      outcome-none t = ends-with (portion-none wide (x .under) (next-is t n)) (ap (λ m. given m true (rule .end)) (x .counted))
+      pub outcome-none : left ≡ false → Outcome rule full k old (given i true (rule .end)) l
+      outcome-none t = ends-with (portion-none wide (x .under) (sym n ∙ t)) (ap (λ m. given m true (rule .end)) (x .counted))
 
       -- a cell is left and the room is full: the end is not told, and the mark is that of the last cell written
-      pub outcome-full : found ≡ true → i ≡ length old / rule .size → Outcome rule full k old (given i false j) l
-      outcome-full t h = ends-with (portion-full wide (x .under) (next-is t n) (x .counted ∙ h)) (ap (λ m. given m false j) (x .counted))
+      pub outcome-full : left ≡ true → i ≡ length old / rule .size → Outcome rule full k old (given i false j) l
+      outcome-full t h = ends-with (portion-full wide (x .under) (sym n ∙ t) (x .counted ∙ h)) (ap (λ m. given m false j) (x .counted))
 
-      -- a cell is left, with room for it, that no record can hold: refusal 12
-      pub outcome-long : found ≡ true → i < length old / rule .size → rule .fits c ≡ false → Outcome rule full k old (refused 12) l
-      outcome-long t h f = ends-with (portion-long wide (x .under) (next-is t n) (omega (arith, x .counted)) f) refl
+    -- a cell is left, with room for it, that no record can hold: refusal 12
+    pub outcome-long : rule .size ≤ length old → {found : Bool} {c : A} → Next rule full j found c → found ≡ true → i < length old / rule .size → rule .fits c ≡ false → Outcome rule full k old (refused 12) l
+    outcome-long wide n t h f = ends-with (portion-long wide (x .under) (next-is t n) (omega (arith, x .counted)) f) refl

@@ -57,6 +57,10 @@ module _ {A : Type 0} (rule : Rule A) where
   unfoldable pub after : List A → List ℕ → List A
   after cs k = keep (isAfter k) cs
 
+  -- whether any of these cells comes after the mark
+  unfoldable pub remains : List A → List ℕ → Bool
+  remains cs k = ltb 0 (length (after cs k))
+
   -- the records of these cells, laid end to end
   unfoldable pub records : List A → List ℕ
   records cs = spread (rule .entries) cs

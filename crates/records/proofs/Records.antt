@@ -7,25 +7,29 @@ use mathlib.Core.List.{List, [], _∷_, _++_, append-assoc}
 use lib.ListN.{length, getD, take, replicate, length-take, length-append, length-replicate}
 use lib.Seq.{take-all}
 use native.Mathlib.Omega.{arith}
+use native.Mathlib.Decide.{decLt}
 use borrow.Author.Tests.{le-leb, lt-leb}
 use Rattle.base.specs.Lists.{pad}
 use Rattle.base.specs.Laid.{Laid}
 use Rattle.base.proofs.Lay.{laid-as}
 use Rattle.space.specs.Mesh.{Mesh}
-use Rattle.templates.specs.Tables.{templateOf}
+use Rattle.templates.specs.Tables.{pyramid, templateOf}
 use Rattle.cells.specs.Cells.{numbersOf}
 use Rattle.cells.specs.Full.{Cell, fullList}
 use Rattle.filling.specs.declared.Tets.{Tets}
 use Rattle.filling.specs.Found.{Found}
 use Rattle.portions.specs.Portions as portions
-use Rattle.portions.specs.Portions.{reply, portion, records}
+use Rattle.portions.specs.Portions.{reply, portion, records, remains}
 use Rattle.portions.specs.Steps.{Come}
-use Rattle.portions.proofs.Loop.{portion-short, portion-none, portion-full, portion-long, under-size, next-is, outcome-short, outcome-none, outcome-full, outcome-long, come-most, come-step}
+use Rattle.portions.proofs.Loop.{portion-short, portion-none, portion-full, portion-long, under-size, next-is, outcome-short, outcome-none, outcome-full, outcome-long, come-most, come-step, next-remains}
 use Rattle.rule.specs.Rule.{tetRule, entries}
 use Rattle.rule.proofs.Full.{lawful}
+use Rattle.rule.proofs.OneKind.{flat-pyramid}
+use Rattle.rule.proofs.Next.{later-all, later-own, pyramid-remains}
+use Rattle.glance.specs.Seen.{Seen}
 use Rattle.records.specs.declared.Mark.{Mark}
 use Rattle.records.specs.declared.Answer.the-variants.{Refused, Long, Given}
-use Rattle.records.specs.Marks.{markOf, Written}
+use Rattle.records.specs.Marks.{letters, markOf, Written}
 use Rattle.records.specs.Records.{cornersOf, cellMarked, Came, headOf}
 
 -- ── a record ──
@@ -66,31 +70,45 @@ module _ (m : Mesh) where
     counted-as : {a : portions.Answer} → portion tetRule (fullList m) k (length old) ≡ reply a (records tetRule (x .done)) → length (portion tetRule (fullList m) k (length old) .written) ≡ tetRule .size * i
     counted-as e = ap (λ p. length (p .written)) e ∙ omega (arith, under-size tetRule (fullList m) (lawful m) (x .under), x .counted)
 
-    module _ (wide : tetRule .size ≤ length old) {found : Bool} {j′ : List ℕ} {f : Tets} (n : Came m j found j′ f) where
+    module _ (wide : tetRule .size ≤ length old) {left : Bool} (n : left ≡ remains tetRule (fullList m) j) where
       -- no cell is left
-      pub written-none : (e : Mark) → markOf e ≡ tetRule .end → found ≡ false → Written m k old (Given i true e) l
+      pub written-none : (e : Mark) → markOf e ≡ tetRule .end → left ≡ false → Written m k old (Given i true e) l
       written-none e q t = record {
-        outcome = rw q (outcome-none tetRule (fullList m) (lawful m) x wide (n .next) t);
+        outcome = rw q (outcome-none tetRule (fullList m) (lawful m) x wide n t);
         plain = refl;
-        counted = counted-as (portion-none tetRule (fullList m) (lawful m) wide (x .under) (next-is tetRule (fullList m) (lawful m) t (n .next)));
+        counted = counted-as (portion-none tetRule (fullList m) (lawful m) wide (x .under) (sym n ∙ t));
       }
 
       -- a cell is left, and no room for it
-      pub written-full : (e : Mark) → markOf e ≡ j → found ≡ true → i ≡ length old / tetRule .size → Written m k old (Given i false e) l
+      pub written-full : (e : Mark) → markOf e ≡ j → left ≡ true → i ≡ length old / tetRule .size → Written m k old (Given i false e) l
       written-full e q t h = record {
-        outcome = rw q (outcome-full tetRule (fullList m) (lawful m) x wide (n .next) t h);
+        outcome = rw q (outcome-full tetRule (fullList m) (lawful m) x wide n t h);
         plain = refl;
-        counted = counted-as (portion-full tetRule (fullList m) (lawful m) wide (x .under) (next-is tetRule (fullList m) (lawful m) t (n .next)) (x .counted ∙ h));
+        counted = counted-as (portion-full tetRule (fullList m) (lawful m) wide (x .under) (sym n ∙ t) (x .counted ∙ h));
       }
 
-      -- a cell is left, with room for it, that no record can hold
-      pub written-long : found ≡ true → i < length old / tetRule .size → tetRule .fits (cellMarked m j′) ≡ false → Written m k old (Long i) l
-      written-long t h u = record {
-        outcome = outcome-long tetRule (fullList m) (lawful m) x wide (n .next) t h u;
-        plain = refl;
-        counted = counted-as (portion-long tetRule (fullList m) (lawful m) wide (x .under) (next-is tetRule (fullList m) (lawful m) t (n .next)) (omega (arith, x .counted)) u);
-      }
+    -- a cell is left, with room for it, that no record can hold
+    pub written-long : tetRule .size ≤ length old → {found : Bool} {j′ : List ℕ} {f : Tets} → Came m j found j′ f → found ≡ true → i < length old / tetRule .size → tetRule .fits (cellMarked m j′) ≡ false → Written m k old (Long i) l
+    written-long wide n t h u = record {
+      outcome = outcome-long tetRule (fullList m) (lawful m) x wide (n .next) t h u;
+      plain = refl;
+      counted = counted-as (portion-long tetRule (fullList m) (lawful m) wide (x .under) (next-is tetRule (fullList m) (lawful m) t (n .next)) (omega (arith, x .counted)) u);
+    }
 
     -- one more record
     pub come-on : {found : Bool} {j′ l′ : List ℕ} {f : Tets} → Came m j found j′ f → found ≡ true → i < length old / tetRule .size → tetRule .fits (cellMarked m j′) ≡ true → Laid (i * tetRule .size) (entries (cellMarked m j′)) l l′ → Come tetRule (fullList m) k old j′ (i + 1) l′
     come-on {j′ = j′} {l′ = l′} n t h u d = subst (λ q. Come tetRule (fullList m) k old q (i + 1) l′) (n .marked) (come-step tetRule (fullList m) (lawful m) x (n .next) t h u d)
+
+-- ── whether any cell is left ──
+
+module _ (m : Mesh) where
+  pub came-remains : {k j : List ℕ} {found : Bool} {f : Tets} → Came m k found j f → found ≡ remains tetRule (fullList m) k
+  came-remains n = next-remains tetRule (fullList m) (lawful m) (n .next)
+
+  -- by a pyramid that was seen
+  pub seen-remains : {lo : ℕ} (k : Mark) → Seen m lo → 5 ≤ k .kind → (k .kind ≡ 5 → lo ≡ k .a + 1) → true ≡ remains tetRule (fullList m) (markOf k)
+  seen-remains {lo} k s h f =
+      sym (pyramid-remains m (markOf k) (s .tuple) (s .leaf) (elim (decLt 5 (k .kind)) [
+        | yes g ↦ later-all m pyramid flat-pyramid (letters k) (s .tuple) g (s .leaf)
+        | no g ↦ let q : k .kind ≡ 5 = omega arith in later-own m pyramid flat-pyramid (letters k) (s .tuple) q (omega (arith, f q, s .first)) (s .leaf)
+      ]))

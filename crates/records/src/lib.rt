@@ -1,5 +1,7 @@
 // The cells after a mark over all three kinds, and the loop that writes their records into a lent room.
 use filling::Tets;
+use glance::sees;
+use neighbours::put;
 use search::Found;
 use search::next;
 use verdict::no_tets;
@@ -12,7 +14,10 @@ ghost use Rattle.base.specs.Lists.{pad};
 ghost use Rattle.base.specs.Laid.{Laid};
 ghost use Rattle.space.specs.Arrays.{meshOf};
 ghost use Rattle.templates.specs.Tables.{templateOf, at};
+ghost use Rattle.cells.specs.Full.{fullList};
 ghost use Rattle.filling.specs.Found.{Found as Numbered};
+ghost use Rattle.portions.specs.Portions.{remains};
+ghost use Rattle.levels.specs.Levels.{levels};
 ghost use Rattle.search.specs.Ready.{Ready};
 ghost use Rattle.rule.specs.Rule.{tetRule, cellAt, Searched};
 ghost use Rattle.records.specs.Marks.{letters, markOf, Written};
@@ -128,6 +133,7 @@ fn end_mark() -> Mark
 
 // The first tuple of a kind that comes after the mark: none of a kind above the mark's, and any of a kind below.
 fn search_kind(
+    tables: &[u8],
     coords: &[i64],
     labels: &[u16],
     parts: &[u16],
@@ -140,6 +146,7 @@ fn search_kind(
     mark: Mark,
     told: bool,
 ) -> Found
+    requires { ⌜ now tables ≡ levels ⌝ }
     requires { ⌜ Ready (now coords) (now labels) n (now offsets) (now entries) (now marks) (now table) × (length (now parts) ≡ length (now labels) / 4) ⌝ }
     requires { ⌜ templateOf kind .kind ≡ kind ⌝ }
     ensures { λ r. ⌜ Searched (meshOf (now (coords .entry)) (now (labels .entry)) (now (parts .entry))) (templateOf kind) (mark .kind) (letters mark) (r .found) (r .tuple) ⌝ }
@@ -156,6 +163,7 @@ fn search_kind(
     if k == kind {
         let from = ordered(kind, mark);
         return next(
+            tables,
             coords,
             labels,
             parts,
@@ -170,6 +178,7 @@ fn search_kind(
         );
     }
     next(
+        tables,
         coords,
         labels,
         parts,
@@ -186,6 +195,7 @@ fn search_kind(
 
 // The first cell of a kind that comes after the mark: the one that the tuple makes.
 fn next_of(
+    tables: &[u8],
     coords: &[i64],
     labels: &[u16],
     parts: &[u16],
@@ -198,11 +208,13 @@ fn next_of(
     mark: Mark,
     told: bool,
 ) -> Step
+    requires { ⌜ now tables ≡ levels ⌝ }
     requires { ⌜ Ready (now coords) (now labels) n (now offsets) (now entries) (now marks) (now table) × (length (now parts) ≡ length (now labels) / 4) ⌝ }
     requires { ⌜ templateOf kind .kind ≡ kind ⌝ }
     ensures { λ r. ⌜ Stepped (meshOf (now (coords .entry)) (now (labels .entry)) (now (parts .entry))) (templateOf kind) (markOf mark) (r .found) (markOf (r .mark)) (r .tets) ⌝ }
 {
     let x = search_kind(
+        tables,
         coords,
         labels,
         parts,
@@ -226,6 +238,7 @@ fn next_of(
 
 // The first cell after the mark, of any kind.
 fn next_cell(
+    tables: &[u8],
     coords: &[i64],
     labels: &[u16],
     parts: &[u16],
@@ -237,10 +250,12 @@ fn next_cell(
     mark: Mark,
     told: bool,
 ) -> Step
+    requires { ⌜ now tables ≡ levels ⌝ }
     requires { ⌜ Ready (now coords) (now labels) n (now offsets) (now entries) (now marks) (now table) × (length (now parts) ≡ length (now labels) / 4) ⌝ }
     ensures { λ r. ⌜ Came (meshOf (now (coords .entry)) (now (labels .entry)) (now (parts .entry))) (markOf mark) (r .found) (markOf (r .mark)) (r .tets) ⌝ }
 {
     let x = next_of(
+        tables,
         coords,
         labels,
         parts,
@@ -257,6 +272,7 @@ fn next_cell(
         return x;
     }
     let y = next_of(
+        tables,
         coords,
         labels,
         parts,
@@ -273,6 +289,7 @@ fn next_cell(
         return y;
     }
     next_of(
+        tables,
         coords,
         labels,
         parts,
@@ -287,19 +304,58 @@ fn next_cell(
     )
 }
 
-// ---- records
+// ---- whether any cell remains
 
-// Writes a list from a place on.
-fn put(room: &mut [u16], from: usize, list: &[u16])
-    requires { ⌜ from + length (now list) ≤ length (now room) ⌝ }
-    ensures { λ r. ⌜ Laid from (now (list .entry)) (now (room .entry)) (now (room .exit)) ⌝ }
+// The least first corner of a pyramid that comes after the mark for certain.
+fn first_after(mark: Mark) -> usize
+    ensures { λ r. ⌜ (mark .kind ≡ 5 → r ≡ mark .a + 1) ⌝ }
 {
-    let mut i = 0;
-    while i < list.len() {
-        room[from + i] = list[i];
-        i += 1;
+    if mark.kind == 5 {
+        return mark.a as usize + 1;
     }
+    0
 }
+
+// A pyramid that is seen at once tells that one does; else the next cell is looked for.
+fn is_any_left(
+    tables: &[u8],
+    coords: &[i64],
+    labels: &[u16],
+    parts: &[u16],
+    n: usize,
+    offsets: &[u16],
+    entries: &[u16],
+    marks: &[u8],
+    table: &[u16],
+    mark: Mark,
+) -> bool
+    requires { ⌜ now tables ≡ levels ⌝ }
+    requires { ⌜ Ready (now coords) (now labels) n (now offsets) (now entries) (now marks) (now table) × (length (now parts) ≡ length (now labels) / 4) ⌝ }
+    ensures { λ r. ⌜ r ≡ remains tetRule (fullList (meshOf (now (coords .entry)) (now (labels .entry)) (now (parts .entry)))) (markOf mark) ⌝ }
+{
+    let lo = first_after(mark);
+    if 5 <= mark.kind {
+        if sees(tables, coords, labels, parts, n, offsets, entries, lo) {
+            return true;
+        }
+    }
+    let s = next_cell(
+        tables,
+        coords,
+        labels,
+        parts,
+        n,
+        offsets,
+        entries,
+        marks,
+        table,
+        mark,
+        true,
+    );
+    s.found
+}
+
+// ---- records
 
 // A record's kind, corners and count.
 fn head_of(mark: Mark, count: usize) -> [u16; 10]
@@ -329,8 +385,9 @@ fn put_record(room: &mut [u16], from: usize, mark: Mark, tets: Tets)
 
 // ---- a portion
 
-// Writes the records of the cells after the mark, as many as the room holds. The next cell is asked for first, then whether the room is full: so the end is told with the last cell.
+// Writes the records of the cells after the mark, as many as the room holds. Where the room is full it is asked whether any cell is left: so the end is told with the last cell.
 pub fn write_cells(
+    tables: &[u8],
     coords: &[i64],
     labels: &[u16],
     parts: &[u16],
@@ -342,6 +399,7 @@ pub fn write_cells(
     mark: Mark,
     records: &mut [u16],
 ) -> Answer
+    requires { ⌜ now tables ≡ levels ⌝ }
     requires { ⌜ Ready (now coords) (now labels) n (now offsets) (now entries) (now marks) (now table) × (length (now parts) ≡ length (now labels) / 4) ⌝ }
     ensures { λ r. ⌜ Written (meshOf (now (coords .entry)) (now (labels .entry)) (now (parts .entry))) (markOf mark) (now (records .entry)) r (now (records .exit)) ⌝ }
 {
@@ -352,7 +410,33 @@ pub fn write_cells(
     let mut i: usize = 0;
     let mut k = mark;
     loop {
+        if i == most {
+            if is_any_left(
+                tables,
+                coords,
+                labels,
+                parts,
+                n,
+                offsets,
+                entries,
+                marks,
+                table,
+                k,
+            ) {
+                return Answer::Given {
+                    count: i,
+                    none_remain: false,
+                    mark: k,
+                };
+            }
+            return Answer::Given {
+                count: i,
+                none_remain: true,
+                mark: end_mark(),
+            };
+        }
         let s = next_cell(
+            tables,
             coords,
             labels,
             parts,
@@ -369,13 +453,6 @@ pub fn write_cells(
                 count: i,
                 none_remain: true,
                 mark: end_mark(),
-            };
-        }
-        if i == most {
-            return Answer::Given {
-                count: i,
-                none_remain: false,
-                mark: k,
             };
         }
         let c = s.mark;

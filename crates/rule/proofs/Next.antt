@@ -1,25 +1,26 @@
 -- A search of each kind, by the least tuple after a tuple, finds the next cell of the full list.
 -- Assumes nothing.
 use Prim.Native.Nat.{ℕ, _-_, _<_}
-use mathlib.Core.Path.{_≡_, sym, _∙_, ap, ap₂, subst}
+use mathlib.Core.Path.{_≡_, refl, sym, _∙_, ap, ap₂, subst}
 use mathlib.Core.Logic.{⊎-elim}
 use mathlib.Core.Bool.{Bool, true, false}
-use mathlib.Core.List.{List, _∷_, _++_}
-use lib.ListN.{replicate}
+use mathlib.Core.List.{List, _∷_, _++_, List·Memᴰ, Memᴰ·append-right}
+use lib.ListN.{getD, replicate}
 use native.Mathlib.Omega.{arith}
 use Rattle.base.specs.Lists.{pad}
 use Rattle.space.specs.Mesh.{Mesh}
 use Rattle.templates.specs.Tables.{Template, hexahedron, prism, pyramid, templateOf, at}
 use Rattle.cells.specs.Full.{Cell, cellsOf, fullList}
-use Rattle.portions.specs.Portions.{before, isAfter}
+use Rattle.portions.specs.Portions.{before, isAfter, remains}
 use Rattle.portions.specs.Tuples.{Agree, front}
 use Rattle.portions.specs.Steps.{Next, Alike}
 use Rattle.portions.proofs.Order.{before-less, before-same, before-cases}
 use Rattle.portions.proofs.Tuples.{lt-of, of-lt, agree-at}
+use Rattle.portions.proofs.Loop.{later-remains}
 use Rattle.portions.proofs.Least.{next-kind, next-past, next-left, next-right}
 use Rattle.rule.specs.Rule.{key, tetRule, isLeaf, cellAt, Searched, past, within, whole}
 use Rattle.rule.proofs.OneKind.{Flat, flat-hexahedron, flat-prism, flat-pyramid, kind, kind-at, leaf-key, zeros-before}
-use Rattle.rule.proofs.Full.{full-is, fall, hexahedra-first}
+use Rattle.rule.proofs.Full.{full-is, fall, hexahedra-first, lawful}
 
 -- ── one kind ──
 
@@ -45,6 +46,13 @@ module _ (m : Mesh) (t : Template) (flat : Flat t) where
     later = λ s e h. ap (before (key (a ∷ vs))) (leaf-key m t flat s e) ∙ before-less (65535 - a) (65535 - t .kind) (at vs (templateOf a .order)) (front (t .corners) s) (omega (arith, flat .high));
     only = λ s e h. zeros-before m t flat s e;
   }
+
+  -- a tuple that passes makes a cell after every mark of a greater kind, and after those of its own with a lesser first number
+  pub later-all : {a : ℕ} (vs s : List ℕ) → t .kind < a → isLeaf m t s ≡ true → isAfter tetRule (a ∷ vs) (cellAt m t s) ≡ true
+  later-all vs s l e = alike-all {vs = vs} l .later s e (zeros-before m t flat s e)
+
+  pub later-own : {a : ℕ} (vs s : List ℕ) → a ≡ t .kind → getD (at vs (t .order)) 0 0 < getD s 0 0 → isLeaf m t s ≡ true → isAfter tetRule (a ∷ vs) (cellAt m t s) ≡ true
+  later-own vs s q l e = alike-own {vs = vs} {v = at vs (t .order)} q (λ j h. refl) .later s e (record { place = 0; within = omega (arith, flat .several); same = λ j h. absurd (let z : ⊥ = omega arith in z); less = l })
 
   pub searched : {a : ℕ} {vs : List ℕ} {found : Bool} {r : List ℕ} → Searched m t a vs found r → Next tetRule (cellsOf m t) (a ∷ vs) found (cellAt m t r)
   unfolding isAfter key
@@ -80,3 +88,10 @@ module _ (m : Mesh) {a : ℕ} {vs : List ℕ} where
       all-kinds
       (next-right tetRule (cellsOf m hexahedron) (cellsOf m prism ++ cellsOf m pyramid) (searched m hexahedron flat-hexahedron v)
       (next-right tetRule (cellsOf m prism) (cellsOf m pyramid) (searched m prism flat-prism w) (searched m pyramid flat-pyramid x)))
+
+-- a pyramid that comes after the mark remains
+pub pyramid-remains : (m : Mesh) (k s : List ℕ) → isLeaf m pyramid s ≡ true → isAfter tetRule k (cellAt m pyramid s) ≡ true → remains tetRule (fullList m) k ≡ true
+pyramid-remains m k s e l =
+    let c = cellAt m pyramid s in
+    let h = Memᴰ·append-right (cellsOf m hexahedron) (Memᴰ·append-right (cellsOf m prism) (kind m pyramid flat-pyramid .has s e)) in
+    later-remains tetRule (fullList m) (lawful m) k c (subst (List·Memᴰ c) (sym (full-is m)) h) l

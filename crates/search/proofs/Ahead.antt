@@ -11,7 +11,7 @@ use lib.Dec.{eqb, ltb}
 use lib.IntN.{ℤ}
 use lib.ListN.{length, getD}
 use Rattle.base.specs.Lists.{all, any, upTo, isIn}
-use Rattle.base.proofs.Bools.{or-false}
+use Rattle.base.proofs.Bools.{or-false, or-either}
 use Rattle.base.proofs.Lists.{both-left, both-right, all-at, any-at}
 use Rattle.base.proofs.Members.{all-map, all-both, from-has}
 use Rattle.space.specs.Mesh.{Mesh, together, holds}
@@ -26,7 +26,7 @@ use Rattle.levels.proofs.Right.{at-place}
 use Rattle.levels.proofs.Following.{ways, covered, linked, follows, followsAny, ahead-at, follows-below, floored, Sides, Twice, RowThree, row-three, row-eleven, row-sixteen}
 use Rattle.search.proofs.Prune.{together-bare, leaf-faces, leaf-small}
 use Rattle.search.proofs.Above.{leaf-above}
-use Rattle.search.proofs.Joined.{or-either, leaf-apart}
+use Rattle.search.proofs.Joined.{leaf-apart}
 
 -- ── facets ──
 

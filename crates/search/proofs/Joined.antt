@@ -11,6 +11,7 @@ use lib.Dec.{eqb, ltb}
 use lib.IntN.{ℤ}
 use lib.ListN.{length, getD}
 use Rattle.base.specs.Lists.{all, any, upTo, isIn}
+use Rattle.base.proofs.Bools.{or-either}
 use Rattle.base.proofs.Lists.{both-left, both-right, all-at, any-at}
 use Rattle.base.proofs.Members.{map-has, from-has}
 use Rattle.space.specs.Mesh.{Mesh, Tetrahedron, together, holds}
@@ -46,10 +47,6 @@ apart x (z ∷ zs) e (List·Memᴰ·tail h) p = apart x zs (go (eqb x z) e) h p
     go : (b : Bool) → (b || isIn x zs) ≡ false → isIn x zs ≡ false
     go true g = absurd (true≢false g)
     go false g = g
-
-pub or-either : (a b : Bool) {P : Type 0} → (a || b) ≡ true → (a ≡ true → P) → (b ≡ true → P) → P
-or-either true b e f g = f refl
-or-either false b e f g = g e
 
 -- two places of a listed tuple have different vertices
 module _ (zs : List ℤ) (ls ps : List ℕ) (k : ℕ) (s : List ℕ) (leaf : isLeaf (meshOf zs ls ps) (templateOf k) s ≡ true) where

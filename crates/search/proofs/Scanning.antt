@@ -11,21 +11,20 @@ use borrow.Author.Count.{below-more}
 use borrow.Author.Tests.{eq-eqb}
 use lib.Dec.{eqb}
 use lib.IntN.{ℤ}
-use lib.ListN.{length, getD, set, take, drop, length-drop}
-use lib.Seq.{length-take-le, getD-take, getD-drop, getD-set-same, getD-set-other}
+use lib.ListN.{length, getD, set}
+use lib.Seq.{getD-set-same, getD-set-other}
 use Rattle.base.proofs.Loop.{length-up}
 use Rattle.space.specs.Mesh.{together}
 use Rattle.space.specs.Arrays.{pointAt, meshOf}
 use Rattle.templates.specs.Tables.{templateOf}
 use Rattle.neighbours.specs.declared.Row.{Row}
-use Rattle.neighbours.specs.Table.{neighboursOf}
-use Rattle.neighbours.specs.Reading.{RowOf}
-use Rattle.neighbours.proofs.Reading.{row-rises, row-has}
+use Rattle.neighbours.specs.Reading.{RowOf, entriesOf}
+use Rattle.neighbours.proofs.Reading.{entries-rise, entries-have}
 use Rattle.portions.specs.Tuples.{Agree, Skips}
 use Rattle.rule.specs.Rule.{isLeaf}
 use Rattle.levels.specs.Levels.{base, joined, also, third}
 use Rattle.levels.specs.Fits.{fits}
-use Rattle.search.specs.Ready.{Ready, Rises, Entered, entriesOf, Served, Met, Begins}
+use Rattle.search.specs.Ready.{Ready, Rises, Entered, Served, Met, Begins}
 use Rattle.portions.proofs.Search.{Laws}
 use Rattle.rule.proofs.OneKind.{leaf-laws}
 use Rattle.levels.proofs.Right.{joinedBy}
@@ -155,9 +154,6 @@ set-agrees t d l s a v q =
 -- ── rows that serve ──
 
 module _ {zs : List ℤ} {ls : List ℕ} {n : ℕ} {os es ms table : List ℕ} (g : Ready zs ls n os es ms table) (k : ℕ) (t : List ℕ) (d : ℕ) (h : d < templateOf k .corners) where
-  abbrev rowAt : Row → List ℕ
-  rowAt r = entriesOf table r
-
   -- a row rises and has every vertex with which a listed tuple goes on
   pub record Serves (r : Row) : Type 0 where
     pub served : Served table r
@@ -167,34 +163,15 @@ module _ {zs : List ℤ} {ls : List ℕ} {n : ℕ} {os es ms table : List ℕ} (
   points ps = length-up (pointAt zs) (length zs / 3) ∙ g .counted
 
   module _ {u : ℕ} {r : Row} (w : RowOf (meshOf [] ls []) n table u r) where
-    size : length (rowAt r) ≡ r .size
-    size =
-        length-take-le (r .from + r .size - r .from) (drop (r .from) table) (omega (arith, w .inside, length-drop (r .from) table))
-        ∙ omega arith
-
-    entry : u < n → (i : ℕ) → i < length (neighboursOf (meshOf [] ls []) n u) → getD (rowAt r) i 0 ≡ getD (neighboursOf (meshOf [] ls []) n u) i 0
-    entry b i e =
-        getD-take (r .from + r .size - r .from) (drop (r .from) table) i 0 (omega (arith, w .whole b))
-        ∙ getD-drop (r .from) table i 0 ∙ w .entries b i (omega (arith, w .whole b))
-
-    row-up : Rises (rowAt r)
-    row-up i j a b = elim (decLt u n) [
-      | yes l ↦
-          let z = row-rises (meshOf [] ls []) n u i j a (omega (arith, b, size, w .whole l)) in
-          omega (arith, z, entry l i (omega (arith, a, b, size, w .whole l)), entry l j (omega (arith, b, size, w .whole l)))
-      | no l ↦ absurd (let o : ⊥ = omega (arith, b, size, w .empty (omega arith)) in o)
-    ]
-
     module _ (p : ℕ) (q : u ≡ getD t p 0) (joins : (ps s : List ℕ) → isLeaf (meshOf zs ls ps) (templateOf k) s ≡ true → Joined ls s p d) where
       pub row-serves : Serves r
       row-serves = record {
-        served = record { inside = w .inside; rises = row-up };
+        served = record { inside = w .inside; rises = entries-rise w };
         has = λ ps s leaf a.
             let j = joins ps s leaf in
             let same : u ≡ getD s p 0 = q ∙ a p (j .earlier) in
             let l : u < n = omega (arith, same, leaf-small zs ls ps k s leaf p (omega (arith, j .earlier)), points ps) in
-            let f = row-has (meshOf [] ls []) n u (getD s d 0) (omega (arith, leaf-small zs ls ps k s leaf d h, points ps)) (ap (λ y. eqb y (getD s d 0)) same ∙ j .other) (ap (λ y. together (meshOf [] ls []) (y ∷ getD s d 0 ∷ [])) same ∙ j .edge) in
-            (f .0, omega (arith, f .1, size, w .whole l), entry l (f .0) (f .1) ∙ f .2);
+            entries-have w l (omega (arith, leaf-small zs ls ps k s leaf d h, points ps)) (ap (λ y. eqb y (getD s d 0)) same ∙ j .other) (ap (λ y. together (meshOf [] ls []) (y ∷ getD s d 0 ∷ [])) same ∙ j .edge);
       }
 
   either-serves : {r q a : Row} → Serves r → Serves q → (a ≡ r) ⊎ (a ≡ q) → Serves a
@@ -221,7 +198,7 @@ module _ {zs : List ℤ} {ls : List ℕ} {n : ℕ} {os es ms table : List ℕ} (
       miss = λ s e a f b.
           let i = x .has ps s e a in
           let j = y .has ps s e a in
-          let o = c .least (i .0) (j .0) (i .1) (j .1) (i .2 ∙ sym (j .2)) (omega (arith, f, i .2)) (passes zs ls ps k s e d h (set t d (getD (rowAt r) (i .0) 0)) (set-agrees t d l s a (getD (rowAt r) (i .0) 0) (i .2)) (g .marked)) in
+          let o = c .least (i .0) (j .0) (i .1) (j .1) (i .2 ∙ sym (j .2)) (omega (arith, f, i .2)) (passes zs ls ps k s e d h (set t d (getD (entriesOf table r) (i .0) 0)) (set-agrees t d l s a (getD (entriesOf table r) (i .0) 0) (i .2)) (g .marked)) in
           omega (arith, o, i .2, b);
     }
 

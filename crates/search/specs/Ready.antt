@@ -6,13 +6,13 @@ use mathlib.Core.Logic.{_⊎_}
 use mathlib.Core.Bool.{Bool, true}
 use mathlib.Core.List.{List, []}
 use lib.IntN.{ℤ}
-use lib.ListN.{length, getD, take, drop}
+use lib.ListN.{length, getD}
 use Rattle.space.specs.Arrays.{meshOf, Close}
 use Rattle.around.specs.Index.{Indexed}
 use Rattle.templates.specs.Tables.{templateOf}
 use Rattle.marks.specs.Marks.{Marked}
 use Rattle.neighbours.specs.declared.Row.{Row}
-use Rattle.neighbours.specs.Reading.{Tabled}
+use Rattle.neighbours.specs.Reading.{Tabled, entriesOf}
 use Rattle.portions.specs.Tuples.{Agree}
 use Rattle.rule.specs.Rule.{isLeaf}
 use Rattle.levels.specs.Levels.{lesser}
@@ -41,10 +41,7 @@ pub record Raised (t : List ℕ) (x lo r : ℕ) : Type 0 where
   pub low : lo ≤ r
   pub from : (r ≡ lo) ⊎ ((0 < getD lesser x 0) × (r ≡ getD t (getD lesser x 0 - 1) 0 + 1))
 
--- the entries of a row of the table; it lies within the table and rises
-abbrev pub entriesOf : List ℕ → Row → List ℕ
-entriesOf table r = take (r .from + r .size - r .from) (drop (r .from) table)
-
+-- a row lies within the table, and its entries rise
 pub record Served (table : List ℕ) (r : Row) : Type 0 where
   pub inside : r .from + r .size ≤ length table
   pub rises : Rises (entriesOf table r)

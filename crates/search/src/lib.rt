@@ -14,7 +14,6 @@ use levels::is_above;
 use levels::joined_of;
 use levels::lesser_of;
 use levels::look_of;
-use levels::tables;
 use levels::third_of;
 use levels::tries;
 use neighbours::Row;
@@ -33,21 +32,18 @@ ghost use lib.Dec.{eqb, ltb};
 ghost use lib.ListN.{length, getD, set, take};
 ghost use Rattle.base.specs.Lists.{all, upTo};
 ghost use Rattle.space.specs.Arrays.{meshOf, Close};
-ghost use Rattle.around.specs.Index.{Indexed};
 ghost use Rattle.templates.specs.Tables.{templateOf, at};
 ghost use Rattle.templates.specs.Least.{isLeast};
-ghost use Rattle.cells.specs.Cells.{isSound};
-ghost use Rattle.marks.specs.Marks.{Marked, facesNoted};
-ghost use Rattle.cells.specs.Rows.{tabled};
 ghost use Rattle.filling.specs.Found.{Found as Numbered};
 ghost use Rattle.verdict.specs.Judged.{Arrays};
-ghost use Rattle.neighbours.specs.Reading.{Tabled};
+ghost use Rattle.marks.specs.Marks.{places};
+ghost use Rattle.neighbours.specs.Reading.{Tabled, entriesOf};
 ghost use Rattle.portions.specs.Tuples.{Skips, LeastAfter};
 ghost use Rattle.rule.specs.Rule.{isLeaf, cellAt};
 ghost use Rattle.ahead.specs.Ahead.{Lent, Only, Least};
 ghost use Rattle.levels.specs.Levels.{base, lesser, look, levels};
 ghost use Rattle.levels.specs.Fits.{fits};
-ghost use Rattle.search.specs.Ready.{Ready, Rises, Entered, Raised, entriesOf, Served, Met, Begins};
+ghost use Rattle.search.specs.Ready.{Ready, Rises, Entered, Raised, Served, Met, Begins};
 ghost use Rattle.search.specs.Ahead.{floorOf, ClosesPair, Follows, LinksFirst, Aims, Fit, Goes, Stops};
 
 // The tuple that was found, in search order, and the tetrahedra of its cell.
@@ -101,7 +97,7 @@ fn agree(
     w: Vertex,
 ) -> bool
     requires { ⌜ now tables ≡ levels ⌝ }
-    requires { ⌜ Close (now coords) × (length (now marks) ≡ 131072) ⌝ }
+    requires { ⌜ Close (now coords) × (length (now marks) ≡ places) ⌝ }
     requires { ⌜ (x < 19) × (d < 8) ⌝ }
     ensures { λ r. ⌜ r ≡ (eqb (v .0) (w .0) && fits (now (coords .entry)) (now (marks .entry)) x d (set t d (v .0))) ⌝ }
 {
@@ -143,7 +139,7 @@ fn meet(
     lo: usize,
 ) -> usize
     requires { ⌜ now tables ≡ levels ⌝ }
-    requires { ⌜ Close (now coords) × (length (now marks) ≡ 131072) ⌝ }
+    requires { ⌜ Close (now coords) × (length (now marks) ≡ places) ⌝ }
     requires { ⌜ ((x < 19) × (d < 8)) × (Rises (now one) × Rises (now two)) ⌝ }
     ensures { λ r. ⌜ Met (λ v. fits (now (coords .entry)) (now (marks .entry)) x d (set t d v)) (now (one .entry)) (now (two .entry)) n lo r ⌝ }
 {
@@ -181,7 +177,7 @@ fn meet_rows(
     lo: usize,
 ) -> usize
     requires { ⌜ now tables ≡ levels ⌝ }
-    requires { ⌜ (Close (now coords) × (length (now marks) ≡ 131072)) × ((x < 19) × (d < 8)) ⌝ }
+    requires { ⌜ (Close (now coords) × (length (now marks) ≡ places)) × ((x < 19) × (d < 8)) ⌝ }
     requires { ⌜ Served (now table) one × Served (now table) two ⌝ }
     ensures { λ r. ⌜ Met (λ v. fits (now (coords .entry)) (now (marks .entry)) x d (set t d v)) (entriesOf (now (table .entry)) one) (entriesOf (now (table .entry)) two) n lo r ⌝ }
 {
@@ -445,7 +441,7 @@ fn goes_on(
     v: usize,
 ) -> bool
     requires { ⌜ now tables ≡ levels ⌝ }
-    requires { ⌜ Close (now coords) × ((length (now marks) ≡ 131072) × (n ≤ 512)) ⌝ }
+    requires { ⌜ Close (now coords) × ((length (now marks) ≡ places) × (n ≤ 512)) ⌝ }
     requires { ⌜ (x < 19) × (d < 8) ⌝ }
     ensures { λ r. ⌜ Stops (Fit (now (coords .entry)) (now (marks .entry)) x d t) n v r ⌝ }
 {
@@ -628,7 +624,7 @@ fn letters(kind: u16, s: [u16; 8]) -> [u16; 8]
 }
 
 // The tuple is a cell in least form, and the tetrahedra of that cell.
-fn is_leaf(
+pub fn is_leaf(
     tables: &[u8],
     coords: &[i64],
     labels: &[u16],
@@ -703,7 +699,7 @@ fn start(
 }
 
 // The least tuple of a kind after the mark that is a cell in least form. Entries past the kind's corners keep what the mark has there.
-fn next_by(
+pub fn next(
     tables: &[u8],
     coords: &[i64],
     labels: &[u16],
@@ -781,39 +777,4 @@ fn next_by(
             lo = wide(t[d]) + 1;
         }
     }
-}
-
-// The same, with the tables of the levels made once.
-pub fn next(
-    coords: &[i64],
-    labels: &[u16],
-    parts: &[u16],
-    n: usize,
-    offsets: &[u16],
-    entries: &[u16],
-    marks: &[u8],
-    table: &[u16],
-    kind: u16,
-    mark: [u16; 8],
-    told: bool,
-) -> Found
-    requires { ⌜ Ready (now coords) (now labels) n (now offsets) (now entries) (now marks) (now table) × (length (now parts) ≡ length (now labels) / 4) ⌝ }
-    ensures { λ r. ⌜ LeastAfter (templateOf kind .corners) (isLeaf (meshOf (now (coords .entry)) (now (labels .entry)) (now (parts .entry))) (templateOf kind)) mark (r .found) (r .tuple) ⌝ }
-    ensures { λ r. ⌜ (r .found ≡ true → Numbered (cellAt (meshOf (now (coords .entry)) (now (labels .entry)) (now (parts .entry))) (templateOf kind) (r .tuple) .tets) (r .tets)) ⌝ }
-{
-    let all = tables();
-    next_by(
-        &all,
-        coords,
-        labels,
-        parts,
-        n,
-        offsets,
-        entries,
-        marks,
-        table,
-        kind,
-        mark,
-        told,
-    )
 }

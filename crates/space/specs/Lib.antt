@@ -1,3 +1,4 @@
 pub mod Box
 pub mod Mesh
 pub mod Arrays
+pub mod Spread

@@ -1,13 +1,14 @@
 // Points and the box product of four of them; the numbers of vertices and of tetrahedra, kept apart by their types.
 ghost use mathlib.Core.Path.{_≡_};
 ghost use mathlib.Core.List.{[], _∷_};
-ghost use Prim.Native.Nat.{_/_, _<_};
+ghost use Prim.Native.Nat.{_+_, _*_, _/_, _<_, _≤_};
 ghost use lib.ListN.{length, getD};
 ghost use lib.IntN.{_+ℤ_, _-ℤ_, _*ℤ_};
 ghost use Rattle.base.specs.Lists.{all, isIn};
 ghost use Rattle.base.specs.Size.{Small};
 ghost use Rattle.space.specs.Box.{near, nearPoint, from, det, box, boxed, Sized};
 ghost use Rattle.space.specs.Mesh.{point};
+ghost use Rattle.space.specs.Spread.{odd, spread};
 ghost use Rattle.space.specs.Arrays.{row4, meshOf, Close};
 
 // The number of a vertex, and the number of a tetrahedron.
@@ -167,4 +168,29 @@ pub fn tet_has3(labels: &[u16], e: Tet, u: Vertex, v: Vertex, w: Vertex) -> bool
         return false;
     }
     tet_has2(labels, e, v, w)
+}
+
+// ---- a number for three vertices
+
+fn odd(v: Vertex) -> usize
+    ensures { λ r. ⌜ (r ≡ odd (v .0)) × (r ≤ 132083) ⌝ }
+{
+    2 * (v.0 as usize) + 1013
+}
+
+fn times(x: usize, y: usize) -> usize
+    requires { ⌜ (x ≤ 17445918889) × (y ≤ 132083) ⌝ }
+    ensures { λ r. ⌜ r ≡ x * y ⌝ }
+{
+    x * y
+}
+
+// Three vertices as one number, whatever their order. Other three rarely have the same one at the last bits, so it tells a place in a table.
+pub fn spread(u: Vertex, v: Vertex, w: Vertex) -> usize
+    ensures { λ r. ⌜ r ≡ spread (u .0) (v .0) (w .0) ⌝ }
+{
+    let x = odd(u);
+    let y = odd(v);
+    let z = odd(w);
+    times(times(x, y), z) / 2
 }

@@ -11,11 +11,12 @@ use lib.Seq.{length-take-le}
 use native.Mathlib.Omega.{arith}
 use borrow.Author.Tests.{ltb-true, ltb-false, eqb-true, eq-eqb, lt-ltb, not-true, eqb-false}
 use Rattle.base.specs.Lists.{all, any, every, keep, upTo, distinct, equal}
+use Rattle.base.proofs.Bools.{or-either}
 use Rattle.base.proofs.Lists.{both-left, both-right, all-at, all-from, any-at, keep-map}
 use Rattle.templates.specs.Tables.{Template, templates, isKind, templateOf, at}
 use Rattle.templates.specs.declared.Least.the-variants.{Refused}
 use Rattle.templates.specs.Least.{rises, risesAt, isLeast, leastBy, leastOf, formOf, formBy, leastForm, leastNumber}
-use Rattle.templates.proofs.Tests.{equal-eq, part, either, or-comm, inRange, at-at, at-all, distinct-at}
+use Rattle.templates.proofs.Tests.{equal-eq, part, or-comm, inRange, at-at, at-all, distinct-at}
 use Rattle.templates.proofs.Turns.{keeps, cornerTests, tableTests, even, row-keeps, row-corners, turned-distinct, turned-at, turned-length}
 
 -- ---- turning twice
@@ -51,10 +52,9 @@ less-tail x y xs ys e h = rw (eq-eqb x y e, h, or-comm (ltb x y) true)
 less-cases : (x y : ℕ) (xs ys : List ℕ) → lessThan (x ∷ xs) (y ∷ ys) ≡ true → (x < y) ⊎ ((x ≡ y) × (lessThan xs ys ≡ true))
 unfolding lessThan
 less-cases x y xs ys e =
-    ⊎-elim
+    or-either (ltb x y) _ e
     (λ h. inl (ltb-true x y h))
     (λ h. inr (eqb-true x y (both-left (eqb x y) _ h), both-right (eqb x y) _ h))
-    (either (ltb x y) _ e)
 
 pub less-irrefl : (xs : List ℕ) → lessThan xs xs ≡ true → ⊥
 unfolding lessThan

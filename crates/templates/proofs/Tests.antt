@@ -2,7 +2,6 @@
 -- Assumes nothing.
 use Prim.Native.Nat.{ℕ, zero, suc, _<_, _≤_, _+_}
 use mathlib.Core.Path.{_≡_, refl, sym, _∙_, ap, ap₂}
-use mathlib.Core.Logic.{_⊎_, inl, inr, ⊎-elim}
 use mathlib.Core.Bool.{Bool, true, false, not, _&&_, _||_, false≢true}
 use mathlib.Core.List.{List, [], _∷_, map, List·Memᴰ, List·Memᴰ·head, List·Memᴰ·tail}
 use lib.Dec.{eqb, ltb}
@@ -11,6 +10,7 @@ use native.Mathlib.Omega.{arith}
 use borrow.Author.Tests.{ltb-true, eqb-true, eq-eqb, eqb-false}
 use Rattle.base.specs.Lists.{all, any, every, from, upTo, isIn, distinct, equal}
 use Rattle.templates.specs.Tables.{at}
+use Rattle.base.proofs.Bools.{or-either}
 use Rattle.base.proofs.Lists.{both-left, both-right, all-at, all-from, any-at}
 
 -- two tests of which each passes where the other does
@@ -21,10 +21,6 @@ agree false false f g = refl
 
 pub both : (a b : Bool) → a ≡ true → b ≡ true → (a && b) ≡ true
 both a b p q = rw (p, q)
-
-pub either : (a b : Bool) → (a || b) ≡ true → (a ≡ true) ⊎ (b ≡ true)
-either true b e = inl refl
-either false b e = inr e
 
 pub or-comm : (a b : Bool) → (a || b) ≡ (b || a)
 or-comm true true = refl
@@ -159,10 +155,9 @@ isIn-at (x ∷ xs) (suc i) h = rw (isIn-at xs i (omega arith), or-comm (eqb (get
 pub at-isIn : (c : List ℕ) (v : ℕ) → isIn v c ≡ true → (i : ℕ) × (i < length c) × (getD c i 0 ≡ v)
 at-isIn [] v e = absurd (false≢true e)
 at-isIn (x ∷ xs) v e =
-    ⊎-elim
+    or-either (eqb v x) (isIn v xs) e
     (λ q. (0, omega arith, sym (eqb-true v x q)))
     (λ q. let w = at-isIn xs v q in (suc (w .0), omega arith, w .2))
-    (either (eqb v x) (isIn v xs) e)
 
 not-both : {X : Type 0} (b : Bool) → not b ≡ true → b ≡ true → X
 not-both true e q = absurd (false≢true e)

@@ -2,7 +2,6 @@
 -- whichever diagonal a quadrilateral has. Assumes nothing.
 use mathlib.Core.Path.{_≡_, refl, sym, _∙_, ap}
 use mathlib.Core.Bool.{Bool, true, false, cond, _&&_, _||_, true≢false}
-use mathlib.Core.Logic.{_⊎_, inl, inr, ⊎-elim}
 use mathlib.Core.List.{List, [], _∷_}
 use Prim.Native.Nat.{ℕ, suc}
 use native.Mathlib.Omega.{arith}
@@ -11,7 +10,7 @@ use lib.Dec.{eqb}
 use lib.IntN.{ℤ}
 use lib.ListN.{getD}
 use Rattle.base.specs.Lists.{all, any, count, keep, isIn}
-use Rattle.base.proofs.Bools.{and-left, and-right}
+use Rattle.base.proofs.Bools.{or-either, and-left, and-right}
 use Rattle.base.proofs.Lists.{all-at, any-at}
 use Rattle.base.proofs.Members.{all-map}
 use Rattle.space.specs.Mesh.{Mesh, Tetrahedron, holds, together}
@@ -30,10 +29,6 @@ or-right : (a b : Bool) → b ≡ true → (a || b) ≡ true
 or-right true b e = refl
 or-right false b e = e
 
-or-cases : (a b : Bool) → (a || b) ≡ true → (a ≡ true) ⊎ (b ≡ true)
-or-cases true b e = inl e
-or-cases false b e = inr e
-
 both : {a b : Bool} → a ≡ true → b ≡ true → (a && b) ≡ true
 both e f = rw (e, f)
 
@@ -46,7 +41,7 @@ module _ {A : Type 0} (p q : A → Bool) (f : (x : A) → p x ≡ true → q x �
 
   any-so : (xs : List A) → any p xs ≡ true → any q xs ≡ true
   any-so [] e = e
-  any-so (x ∷ xs) e = ⊎-elim (λ h. or-left (q x) (any q xs) (f x h)) (λ h. or-right (q x) (any q xs) (any-so xs h)) (or-cases (p x) (any p xs) e)
+  any-so (x ∷ xs) e = or-either (p x) (any p xs) e (λ h. or-left (q x) (any q xs) (f x h)) (λ h. or-right (q x) (any q xs) (any-so xs h))
 
   count-so : (xs : List A) (n : ℕ) → count p xs ≡ suc n → any q xs ≡ true
   count-so [] n e = absurd (omega (arith, e))
@@ -71,10 +66,9 @@ module _ (m : Mesh) (t : Template) (c : List ℕ) where
       let a = all (isOnce m t c) (first q) in
       let b = all (isOnce m t c) (second q) in
       let d = all (isFacet m t c) (first q) in
-      ⊎-elim
+      or-either (a && all (isPaired m t c) (second q)) (b && all (isPaired m t c) (first q)) e
       (λ h. or-left d _ (all-so (isOnce m t c) (isFacet m t c) once-facet (first q) (and-left a _ h)))
       (λ h. or-right d _ (all-so (isOnce m t c) (isFacet m t c) once-facet (second q) (and-left b _ h)))
-      (or-cases (a && all (isPaired m t c) (second q)) (b && all (isPaired m t c) (first q)) e)
 
   filled-faces : isFilled m t c ≡ true → hasFaces m t c ≡ true
   unfolding isFilled isFilledBy hasFaces
@@ -123,7 +117,7 @@ module _ (m : Mesh) (t : Template) (c : List ℕ) where
   side-joined e q s h =
       let a = any (among e) (first q) in
       let b = any (among e) (second q) in
-      ⊎-elim (λ f. some-joined e (first q) (and-left a b s) f) (λ f. some-joined e (second q) (and-right a b s) f) (or-cases (all (isFacet m t c) (first q)) _ h)
+      or-either (all (isFacet m t c) (first q)) _ h (some-joined e (first q) (and-left a b s)) (some-joined e (second q) (and-right a b s))
 
   faces-edges : edged t ≡ true → hasFaces m t c ≡ true → hasEdges m t c ≡ true
   unfolding hasEdges hasFaces
@@ -131,10 +125,9 @@ module _ (m : Mesh) (t : Template) (c : List ℕ) where
       let a = all (isFacet m t c) (t .triangles) in
       let b = all (isSplit m t c) (t .quads) in
       all-so (onFace t) (λ e. together m (at c e)) (λ e h.
-      ⊎-elim
+      or-either (any (among e) (t .triangles)) (any (isSide e) (t .quads)) h
       (λ g. some-joined e (t .triangles) g (and-left a b f))
       (λ g. let y = any-at (isSide e) (t .quads) g in side-joined e (y .0) (y .2) (all-at (isSplit m t c) (t .quads) (and-right a b f) (y .1)))
-      (or-cases (any (among e) (t .triangles)) (any (isSide e) (t .quads)) h)
       ) (t .edges) w
 
 -- ---- a cell by 1, 4, 5 and 6

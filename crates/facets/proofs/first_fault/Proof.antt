@@ -51,18 +51,27 @@ index-requires c κs =
       (simp length-replicate (omega (arith, i .pre .points)), simp length-replicate (omega (arith, i .pre .few))),
     )
 
+slice-aggregate-put-all : tie.Need-slice-aggregate-put-all
+slice-aggregate-put-all c = search needs
+
+put-all-requires : tie.Need-put-all-requires
+put-all-requires c κs = search needs
+
 slice-aggregate-any-crowded : tie.Need-slice-aggregate-any-crowded
 slice-aggregate-any-crowded c = search needs
 
 slice-aggregate-any-crowded-2 : tie.Need-slice-aggregate-any-crowded-2
 slice-aggregate-any-crowded-2 c = search needs
 
+slice-aggregate-any-crowded-3 : tie.Need-slice-aggregate-any-crowded-3
+slice-aggregate-any-crowded-3 c = search needs
+
 any-crowded-requires : tie.Need-any-crowded-requires
 any-crowded-requires c κs = search needs
 
 returns-4 : tie.Need-returns-4
 returns-4 c =
-    let g = c .before .before .before .before .before .before .before .before .before in
+    let g = c .before .before .before .before .before .before .before .before .before .before .before .before .before in
     let f = g .before .before in
     let d = f .before .before in
     let s = d .before .before .before .args in
@@ -74,13 +83,16 @@ slice-aggregate-any-folded c = search needs
 slice-aggregate-any-folded-2 : tie.Need-slice-aggregate-any-folded-2
 slice-aggregate-any-folded-2 c = search needs
 
+slice-aggregate-any-folded-3 : tie.Need-slice-aggregate-any-folded-3
+slice-aggregate-any-folded-3 c = search needs
+
 any-folded-requires : tie.Need-any-folded-requires
 any-folded-requires c κs = search needs
 
 returns-5 : tie.Need-returns-5
 returns-5 c =
-    let h = c .before .before .before .before in
-    let g = h .before .before .before .before .before .before .before .before .before in
+    let h = c .before .before .before .before .before in
+    let g = h .before .before .before .before .before .before .before .before .before .before .before .before .before in
     let f = g .before .before in
     let d = f .before .before in
     let s = d .before .before .before .args in
@@ -88,8 +100,8 @@ returns-5 c =
 
 returns-6 : tie.Need-returns-6
 returns-6 c =
-    let h = c .before .before .before .before in
-    let g = h .before .before .before .before .before .before .before .before .before in
+    let h = c .before .before .before .before .before in
+    let g = h .before .before .before .before .before .before .before .before .before .before .before .before .before in
     let f = g .before .before in
     let d = f .before .before in
     let s = d .before .before .before .args in
@@ -108,12 +120,16 @@ first-fault-spec =
     slice-aggregate-index
     slice-aggregate-index-2
     index-requires
+    slice-aggregate-put-all
+    put-all-requires
     slice-aggregate-any-crowded
     slice-aggregate-any-crowded-2
+    slice-aggregate-any-crowded-3
     any-crowded-requires
     returns-4
     slice-aggregate-any-folded
     slice-aggregate-any-folded-2
+    slice-aggregate-any-folded-3
     any-folded-requires
     returns-5
     returns-6)

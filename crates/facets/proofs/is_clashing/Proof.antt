@@ -1,51 +1,41 @@
 -- `facets::is_clashing` meets its contract. Assumes nothing.
-use mathlib.Core.Path.{_∙_}
-use Rattle.around.proofs.Around.{row-slice, slice-within}
-use Rattle.facets.proofs.Tests.{clash-around}
+use mathlib.Core.Path.{sym}
+use Rattle.facets.proofs.Pairing.{tries-two}
 use borrow.Author.Needs.{needs}
 use Rattle.facets.proofs.is_clashing.Statement.{statement}
 use Rattle.facets.proofs.is_clashing.Tie as tie
 
-rarest-requires : tie.Need-rarest-requires
-rarest-requires c κs = search needs
+pair-of-requires : tie.Need-pair-of-requires
+pair-of-requires c κs = search needs
 
-row-of-requires : tie.Need-row-of-requires
-row-of-requires c κs = search needs
-
-add-end : tie.Need-add-end
-add-end c = search needs
-
-mul-any-clash : tie.Need-mul-any-clash
-mul-any-clash c = search needs
-
-sub-any-clash : tie.Need-sub-any-clash
-sub-any-clash c = search needs
-
-part-any-clash-start : tie.Need-part-any-clash-start
-part-any-clash-start c = search needs
-
-part-any-clash-end : tie.Need-part-any-clash-end
-part-any-clash-end c = search needs
-
-any-clash-requires : tie.Need-any-clash-requires
-any-clash-requires c κs = (c .before .before .before .before .before .before .before .pre .0, slice-within (c .before .before .row-of .ensures))
+clashes-around-requires : tie.Need-clashes-around-requires
+clashes-around-requires c κs = search needs
 
 returns : tie.Need-returns
-returns c =
-    let d = c .before .before .before in
-    let s = d .before .before .before .before .before .args in
-    c .any-clash .ensures ∙ rw (row-slice (d .row-of .ensures), d .before .rarest .ensures) (clash-around (s .coords .now) (s .labels .now) (s .e .0) (s .u .0) (s .a .0) (s .b .0) (s .c .0))
+returns c = search needs
+
+clashes-named-requires : tie.Need-clashes-named-requires
+clashes-named-requires c κs = search needs
+
+returns-2 : tie.Need-returns-2
+returns-2 c = sym (c .before .clashes-named .ensures .some (c .if2 .taken))
+
+clashes-named-requires-2 : tie.Need-clashes-named-requires-2
+clashes-named-requires-2 c κs = search needs
+
+returns-3 : tie.Need-returns-3
+returns-3 c =
+    let f = c .before .before in
+    tries-two (f .before .before .pair-of .ensures) (f .before .if1 .left) (f .clashes-named .ensures) (c .before .if2 .left) (c .clashes-named2 .ensures)
 
 pub is-clashing-spec : {M : Type 1} → statement M
 is-clashing-spec =
     tie.close
     (tie.spec
-    rarest-requires
-    row-of-requires
-    add-end
-    mul-any-clash
-    sub-any-clash
-    part-any-clash-start
-    part-any-clash-end
-    any-clash-requires
-    returns)
+    pair-of-requires
+    clashes-around-requires
+    returns
+    clashes-named-requires
+    returns-2
+    clashes-named-requires-2
+    returns-3)

@@ -1,6 +1,7 @@
 -- `facets::is_crowded` meets its contract. Assumes nothing.
 use Rattle.facets.specs.Facets.{full, crowded}
 use Rattle.facets.proofs.Tests.{facet-1, facet-2, facet-3, facet-4}
+use Rattle.facets.proofs.Pairing.{facets-apart}
 use borrow.Author.Needs.{needs}
 use Rattle.facets.proofs.is_crowded.Statement.{statement}
 use Rattle.facets.proofs.is_crowded.Tie as tie
@@ -8,65 +9,49 @@ use Rattle.facets.proofs.is_crowded.Tie as tie
 corners-requires : tie.Need-corners-requires
 corners-requires c κs = search needs
 
-array-read-t11 : tie.Need-array-read-t11
-array-read-t11 c = search needs
-
 array-read-t15 : tie.Need-array-read-t15
 array-read-t15 c = search needs
 
-array-read-t19 : tie.Need-array-read-t19
-array-read-t19 c = search needs
+array-read-t15-2 : tie.Need-array-read-t15-2
+array-read-t15-2 c = search needs
 
-array-read-t23 : tie.Need-array-read-t23
-array-read-t23 c = search needs
+array-read-t15-3 : tie.Need-array-read-t15-3
+array-read-t15-3 c = search needs
+
+array-read-t15-4 : tie.Need-array-read-t15-4
+array-read-t15-4 c = search needs
 
 is-full-requires : tie.Need-is-full-requires
-is-full-requires c κs = search needs
+is-full-requires c κs =
+    let s = c .before .before .before .before .before in
+    (s .pre .0, (s .pre .1 .0, facets-apart (s .args .e .0) (s .pre .0 .labelled) (s .pre .1 .1) (c .corners .ensures) .facet0))
 
 returns : tie.Need-returns
 unfolding crowded
 returns c =
     let k = c .before .before in
-    let s = k .before .before .before .before .args in
+    let s = k .before .before .before .before .before .args in
     facet-1 (full (s .labels .now)) (s .labels .now) (s .e .0) (k .corners .ensures) (c .before .is-full .ensures) (c .if1 .taken)
 
-array-read-t11-2 : tie.Need-array-read-t11-2
-array-read-t11-2 c = search needs
-
-array-read-t23-2 : tie.Need-array-read-t23-2
-array-read-t23-2 c = search needs
-
-array-read-t19-2 : tie.Need-array-read-t19-2
-array-read-t19-2 c = search needs
-
-array-read-t15-2 : tie.Need-array-read-t15-2
-array-read-t15-2 c = search needs
-
 is-full-requires-2 : tie.Need-is-full-requires-2
-is-full-requires-2 c κs = search needs
+is-full-requires-2 c κs =
+    let k = c .before .before in
+    let s = k .before .before .before .before .before in
+    (s .pre .0, (s .pre .1 .0, facets-apart (s .args .e .0) (s .pre .0 .labelled) (s .pre .1 .1) (k .corners .ensures) .facet1))
 
 returns-2 : tie.Need-returns-2
 unfolding crowded
 returns-2 c =
     let f = c .before .before in
     let k = f .before .before in
-    let s = k .before .before .before .before .args in
+    let s = k .before .before .before .before .before .args in
     facet-2 (full (s .labels .now)) (s .labels .now) (s .e .0) (k .corners .ensures) (f .before .is-full .ensures) (f .if1 .left) (c .before .is-full2 .ensures) (c .if2 .taken)
 
-array-read-t11-3 : tie.Need-array-read-t11-3
-array-read-t11-3 c = search needs
-
-array-read-t15-3 : tie.Need-array-read-t15-3
-array-read-t15-3 c = search needs
-
-array-read-t19-3 : tie.Need-array-read-t19-3
-array-read-t19-3 c = search needs
-
-array-read-t23-3 : tie.Need-array-read-t23-3
-array-read-t23-3 c = search needs
-
 is-full-requires-3 : tie.Need-is-full-requires-3
-is-full-requires-3 c κs = search needs
+is-full-requires-3 c κs =
+    let k = c .before .before .before .before in
+    let s = k .before .before .before .before .before in
+    (s .pre .0, (s .pre .1 .0, facets-apart (s .args .e .0) (s .pre .0 .labelled) (s .pre .1 .1) (k .corners .ensures) .facet2))
 
 returns-3 : tie.Need-returns-3
 unfolding crowded
@@ -74,23 +59,14 @@ returns-3 c =
     let g = c .before .before in
     let f = g .before .before in
     let k = f .before .before in
-    let s = k .before .before .before .before .args in
+    let s = k .before .before .before .before .before .args in
     facet-3 (full (s .labels .now)) (s .labels .now) (s .e .0) (k .corners .ensures) (f .before .is-full .ensures) (f .if1 .left) (g .before .is-full2 .ensures) (g .if2 .left) (c .before .is-full3 .ensures) (c .if3 .taken)
 
-array-read-t11-4 : tie.Need-array-read-t11-4
-array-read-t11-4 c = search needs
-
-array-read-t23-4 : tie.Need-array-read-t23-4
-array-read-t23-4 c = search needs
-
-array-read-t19-4 : tie.Need-array-read-t19-4
-array-read-t19-4 c = search needs
-
-array-read-t15-4 : tie.Need-array-read-t15-4
-array-read-t15-4 c = search needs
-
 is-full-requires-4 : tie.Need-is-full-requires-4
-is-full-requires-4 c κs = search needs
+is-full-requires-4 c κs =
+    let k = c .before .before .before .before .before .before in
+    let s = k .before .before .before .before .before in
+    (s .pre .0, (s .pre .1 .0, facets-apart (s .args .e .0) (s .pre .0 .labelled) (s .pre .1 .1) (k .corners .ensures) .facet3))
 
 returns-4 : tie.Need-returns-4
 unfolding crowded
@@ -99,7 +75,7 @@ returns-4 c =
     let g = h .before .before in
     let f = g .before .before in
     let k = f .before .before in
-    let s = k .before .before .before .before .args in
+    let s = k .before .before .before .before .before .args in
     facet-4 (full (s .labels .now)) (s .labels .now) (s .e .0) (k .corners .ensures) (f .before .is-full .ensures) (f .if1 .left) (g .before .is-full2 .ensures) (g .if2 .left) (h .before .is-full3 .ensures) (h .if3 .left) (c .is-full4 .ensures)
 
 pub is-crowded-spec : {M : Type 1} → statement M
@@ -107,27 +83,15 @@ is-crowded-spec =
     tie.close
     (tie.spec
     corners-requires
-    array-read-t11
     array-read-t15
-    array-read-t19
-    array-read-t23
+    array-read-t15-2
+    array-read-t15-3
+    array-read-t15-4
     is-full-requires
     returns
-    array-read-t11-2
-    array-read-t23-2
-    array-read-t19-2
-    array-read-t15-2
     is-full-requires-2
     returns-2
-    array-read-t11-3
-    array-read-t15-3
-    array-read-t19-3
-    array-read-t23-3
     is-full-requires-3
     returns-3
-    array-read-t11-4
-    array-read-t23-4
-    array-read-t19-4
-    array-read-t15-4
     is-full-requires-4
     returns-4)

@@ -9,11 +9,21 @@ index-requires c κs = search needs
 note-facets-requires : tie.Need-note-facets-requires
 note-facets-requires c κs = c .before .before .before .before .before .before .before .before .before .before .before .before .before .before .before .pre .1 .0 .1 .1
 
+tables-requires : tie.Need-tables-requires
+tables-requires c κs = search needs
+
+slice-aggregate-write-cells : tie.Need-slice-aggregate-write-cells
+slice-aggregate-write-cells c = search needs
+
 write-cells-requires : tie.Need-write-cells-requires
 write-cells-requires c κs =
-    let h = c .before .before .before .before .before .before .before .before .before .before .before .before .before .before .before .before .before .before .before .before .before .before .pre .0 in (
-      record { close = h .close; counted = h .counted; few = h .few; marked = c .before .before .before .before .before .before .note-facets .ensures; indexed = c .before .before .before .before .before .before .before .before .before .before .before .before .index .ensures .0; tabled = c .before .before .before .before .before .before .before .before .before .before .before .before .before .before .before .before .before .before .before .before .before .before .pre .1 .1 },
-      h .parted,
+    let s = c .before .before .before .before .before .before .before .before .before .before .before .before .before .before .before .before .before .before .before .before .before .before .before .before in
+    let h = s .pre .0 in (
+      c .before .before .before .before .before .tables .ensures,
+      (
+        record { close = h .close; counted = h .counted; few = h .few; marked = c .before .before .before .before .before .before .before .before .note-facets .ensures; indexed = c .before .before .before .before .before .before .before .before .before .before .before .before .before .before .index .ensures .0; tabled = s .pre .1 .1 },
+        h .parted,
+      ),
     )
 
 same-length : tie.Need-same-length
@@ -37,6 +47,8 @@ write-listed-spec =
     (tie.spec
     index-requires
     note-facets-requires
+    tables-requires
+    slice-aggregate-write-cells
     write-cells-requires
     same-length
     same-length-2

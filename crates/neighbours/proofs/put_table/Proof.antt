@@ -1,28 +1,23 @@
+use mathlib.Core.Path.{refl}
 use native.Mathlib.Omega.{arith}
-use mathlib.Core.Path.{_≡_, refl, sym, _∙_, ap}
-use Prim.Native.Nat.{ℕ, _+_, _-_, _≤_, _<_}
 use lib.ListN.{length}
-use lib.ListN.{length-append}
-use Rattle.neighbours.specs.Table.{rowOf, rowsOf, offsets, tableBy}
-use Rattle.neighbours.specs.Marks.{hit}
-use Rattle.neighbours.proofs.Rows.{length-offs, offs-all}
 use Rattle.base.proofs.Lay.{laid-more}
 use borrow.Author.Needs.{needs}
 use Rattle.neighbours.proofs.put_table.Statement.{statement}
 use Rattle.neighbours.proofs.put_table.Tie as tie
 
-put-offsets-requires : tie.Need-put-offsets-requires
-put-offsets-requires c κs = search needs
+put-requires : tie.Need-put-requires
+put-requires c κs = search needs
 
-put-rows-requires : tie.Need-put-rows-requires
-put-rows-requires c κs = search needs
+put-requires-2 : tie.Need-put-requires-2
+put-requires-2 c κs = search needs
 
 same-length : tie.Need-same-length
 same-length c = search needs
 
 returns : tie.Need-returns
-unfolding tableBy
-returns c = let a = c .before .before .before .before .before .before .before .before .before .args in let r = rowOf (hit (a .m .now)) (a .n) in laid-more (c .before .before .before .before .before .before .put-offsets .ensures) (a .n + 1) (omega (arith, ap length (offs-all r (a .n)), length-offs r (a .n + 1))) (c .before .before .put-rows .ensures) refl
+returns c =
+    laid-more (c .before .before .before .before .before .before .put .ensures) _ (omega arith) (c .before .before .put2 .ensures) refl
 
 pub put-table-spec : {M : Type 1} → statement M
-put-table-spec = tie.close (tie.spec put-offsets-requires put-rows-requires same-length returns)
+put-table-spec = tie.close (tie.spec put-requires put-requires-2 same-length returns)

@@ -1,4 +1,5 @@
 -- `records::next_cell` meets its contract. Assumes nothing.
+use mathlib.Core.Path.{refl}
 use Rattle.records.proofs.Marks.{came-8, came-6, came-5}
 use borrow.Author.Needs.{needs}
 use Rattle.records.proofs.next_cell.Statement.{statement}
@@ -17,7 +18,7 @@ returns-2 : tie.Need-returns-2
 returns-2 c = came-6 _ (c .before .before .if1 .left) (c .before .before .before .next-of .ensures) (c .if2 .taken) (c .before .next-of2 .ensures)
 
 next-of-requires-3 : tie.Need-next-of-requires-3
-next-of-requires-3 c κs = search needs
+next-of-requires-3 c κs = let s = c .before .before .before .before .before .before .before .before .before .before .before in (s .pre .0, (s .pre .1, refl))
 
 returns-3 : tie.Need-returns-3
 returns-3 c = came-5 _ (c .before .before .before .if1 .left) (c .before .before .before .before .next-of .ensures) (c .before .if2 .left) (c .before .before .next-of2 .ensures) (c .next-of3 .ensures)

@@ -14,8 +14,8 @@ no-tets-requires c κs = search needs
 
 returns : tie.Need-returns
 returns c =
-    let s = c .before .before .before .before .before .before .before .before in
-    (searched-past _ (templateOf (s .args .kind)) (s .pre .1) (c .before .if1 .taken), λ y. absurd (true≢false (sym y)))
+    let s = c .before .before .before .before .before .before .before .before .before in
+    (searched-past _ (templateOf (s .args .kind)) (s .pre .1 .1) (c .before .if1 .taken), λ y. absurd (true≢false (sym y)))
 
 ordered-requires : tie.Need-ordered-requires
 ordered-requires c κs = search needs
@@ -24,13 +24,13 @@ next-requires : tie.Need-next-requires
 next-requires c κs = search needs
 
 returns-2 : tie.Need-returns-2
-returns-2 c = (searched-within _ _ (c .before .before .before .before .before .before .before .before .before .before .pre .1) (c .before .before .if2 .taken) (c .before .ordered .ensures) (c .next .ensures .0), c .next .ensures .1)
+returns-2 c = (searched-within _ _ (c .before .before .before .before .before .before .before .before .before .before .before .pre .1 .1) (c .before .before .if2 .taken) (c .before .ordered .ensures) (c .next .ensures .0), c .next .ensures .1)
 
 next-requires-2 : tie.Need-next-requires-2
 next-requires-2 c κs = search needs
 
 returns-3 : tie.Need-returns-3
-returns-3 c = (whole (omega (arith, c .before .before .before .before .before .before .before .before .before .pre .1)) (c .next2 .ensures .0), c .next2 .ensures .1)
+returns-3 c = (whole (omega (arith, c .before .before .before .before .before .before .before .before .before .before .pre .1 .1)) (c .next2 .ensures .0), c .next2 .ensures .1)
 
 pub search-kind-spec : {M : Type 1} → statement M
 search-kind-spec =

@@ -9,7 +9,7 @@ use borrow.Author.Tests.{not-true, not-false, ne-eqb, eq-eqb}
 use borrow.Author.Needs.{needs}
 use Rattle.portions.specs.Portions.{Lawful}
 use Rattle.portions.specs.Steps.{Come}
-use Rattle.portions.proofs.Loop.{outcome-short, come-start, come-most, come-step, outcome-none, outcome-full, outcome-long}
+use Rattle.portions.proofs.Loop.{outcome-short, come-start, come-most, come-step, outcome-none, outcome-full, outcome-long, next-remains}
 use Rattle.trial.specs.Trial.{trialRule, trials}
 use Rattle.trial.proofs.Trial.{lawful}
 use Rattle.trial.proofs.portion.Statement.{statement}
@@ -41,13 +41,13 @@ same-length : tie.Need-same-length Inv-loop μ-loop
 same-length c = c .before .before .before .loop .inv .laid .same
 
 returns-2 : tie.Need-returns-2 Inv-loop μ-loop
-returns-2 c = outcome-none trialRule (trials _) (law _ (omega arith)) (c .before .before .before .loop .inv) (omega arith) (c .before .before .next .ensures) (not-true _ (c .if2 .taken))
+returns-2 c = outcome-none trialRule (trials _) (law _ (omega arith)) (c .before .before .before .loop .inv) (omega arith) (next-remains trialRule (trials _) (law _ (omega arith)) (c .before .before .next .ensures)) (not-true _ (c .if2 .taken))
 
 same-length-2 : tie.Need-same-length-2 Inv-loop μ-loop
 same-length-2 c = c .before .before .before .before .loop .inv .laid .same
 
 returns-3 : tie.Need-returns-3 Inv-loop μ-loop
-returns-3 c = outcome-full trialRule (trials _) (law _ (omega arith)) (c .before .before .before .before .loop .inv) (omega arith) (c .before .before .before .next .ensures) (not-false _ (c .before .if2 .left)) (c .if3 .taken)
+returns-3 c = outcome-full trialRule (trials _) (law _ (omega arith)) (c .before .before .before .before .loop .inv) (omega arith) (next-remains trialRule (trials _) (law _ (omega arith)) (c .before .before .before .next .ensures)) (not-false _ (c .before .if2 .left)) (c .if3 .taken)
 
 same-length-3 : tie.Need-same-length-3 Inv-loop μ-loop
 same-length-3 c = c .before .before .before .before .before .loop .inv .laid .same

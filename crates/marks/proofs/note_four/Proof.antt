@@ -1,0 +1,44 @@
+-- `marks::note_four` meets its contract. Assumes nothing.
+use Rattle.marks.proofs.Noting.{square-next, line-next}
+use borrow.Author.Needs.{needs}
+use Rattle.marks.proofs.note_four.Statement.{statement}
+use Rattle.marks.proofs.note_four.Tie as tie
+
+note-requires : tie.Need-note-requires
+note-requires c κs = search needs
+
+note-requires-2 : tie.Need-note-requires-2
+note-requires-2 c κs = search needs
+
+note-requires-3 : tie.Need-note-requires-3
+note-requires-3 c κs = search needs
+
+note-requires-4 : tie.Need-note-requires-4
+note-requires-4 c κs = search needs
+
+note-three-requires : tie.Need-note-three-requires
+note-three-requires c κs = search needs
+
+same-length : tie.Need-same-length
+same-length c = search needs
+
+returns : tie.Need-returns
+returns c =
+    let r5 = c .before .before in
+    let r4 = r5 .before .before .before .before in
+    let r3 = r4 .before .before .before .before in
+    let r2 = r3 .before .before .before .before in
+    let r1 = r2 .before .before .before .before in
+    square-next (line-next (r1 .note .ensures) (line-next (r2 .note2 .ensures) (line-next (r3 .note3 .ensures) (r4 .note4 .ensures)))) (r5 .note-three .ensures)
+
+pub note-four-spec : {M : Type 1} → statement M
+note-four-spec =
+    tie.close
+    (tie.spec
+    note-requires
+    note-requires-2
+    note-requires-3
+    note-requires-4
+    note-three-requires
+    same-length
+    returns)

@@ -1,0 +1,30 @@
+-- `pairs::put_tet` meets its contract. Assumes nothing.
+use Rattle.pairs.proofs.Telling.{put-tet}
+use borrow.Author.Needs.{needs}
+use Rattle.pairs.proofs.put_tet.Statement.{statement}
+use Rattle.pairs.proofs.put_tet.Tie as tie
+
+put-requires : tie.Need-put-requires
+put-requires c κs = search needs
+
+put-requires-2 : tie.Need-put-requires-2
+put-requires-2 c κs = search needs
+
+put-requires-3 : tie.Need-put-requires-3
+put-requires-3 c κs = search needs
+
+put-requires-4 : tie.Need-put-requires-4
+put-requires-4 c κs = search needs
+
+same-length : tie.Need-same-length
+same-length c = search needs
+
+returns : tie.Need-returns
+returns c =
+    let a = c .before .before .before .before .before .before .before .before .before .before .before .before .before .before .before .before .before .args in
+    put-tet (a .e .0) (a .a .0) (a .b .0) (a .c .0) (a .d .0) (c .before .before .before .before .before .before .before .before .before .before .before .before .before .before .put .ensures) (c .before .before .before .before .before .before .before .before .before .before .put2 .ensures) (c .before .before .before .before .before .before .put3 .ensures) (c .before .before .put4 .ensures)
+
+pub put-tet-spec : {M : Type 1} → statement M
+put-tet-spec =
+    tie.close
+    (tie.spec put-requires put-requires-2 put-requires-3 put-requires-4 same-length returns)

@@ -1,0 +1,177 @@
+-- `search::next` meets its contract. Assumes nothing.
+use mathlib.Core.Path.{_≡_, sym, _∙_}
+use mathlib.Core.Bool.{true≢false}
+use lib.ListN.{length}
+use native.Mathlib.Omega.{arith}
+use borrow.Author.Needs.{needs}
+use Rattle.space.specs.Arrays.{meshOf}
+use Rattle.templates.specs.Tables.{templateOf}
+use Rattle.portions.proofs.Search.{Open, begin, descend, reject, result, carry, nothing}
+use Rattle.portions.proofs.Turns.{left, less-descend, less-reject, less-carry}
+use Rattle.rule.specs.Rule.{isLeaf}
+use Rattle.search.proofs.Scanning.{laws-of}
+use Rattle.search.proofs.next.Statement.{statement}
+use Rattle.search.proofs.next.Tie as tie
+
+abbrev Inv-loop : tie.InvT-loop
+Inv-loop tables coords labels parts n offsets entries marks table kind told k t₀ d₀ lo₀ t d lo = Open (templateOf kind .corners) (isLeaf (meshOf coords labels parts) (templateOf kind)) t₀ t d lo
+
+abbrev μ-loop : tie.MeasureT-loop
+μ-loop tables coords labels parts n offsets entries marks table kind told k t₀ d₀ lo₀ t d lo = left n k t d lo
+
+corners-of-requires : tie.Need-corners-of-requires Inv-loop μ-loop
+corners-of-requires c κs = search needs
+
+start-requires : tie.Need-start-requires Inv-loop μ-loop
+start-requires c κs = let z = c .before .before .before .before .before .before .before .before in (z .pre .0, z .pre .1 .0)
+
+mul-wide : tie.Need-mul-wide Inv-loop μ-loop
+mul-wide c = omega arith
+
+array-read-wide : tie.Need-array-read-wide Inv-loop μ-loop
+array-read-wide c = omega arith
+
+wide-requires : tie.Need-wide-requires Inv-loop μ-loop
+wide-requires c κs = search needs
+
+add-lo : tie.Need-add-lo Inv-loop μ-loop
+add-lo c = omega arith
+
+loop-holds : tie.Need-loop-holds Inv-loop μ-loop
+loop-holds c =
+    let z = c .before .before .before .before .before .before .before .before .before .before in
+    let w = laws-of (z .pre .1 .0) (z .args .kind) (z .args .mark) (z .args .parts .now) in
+    let g = z .good .1 .1 .1 .1 .1 .1 .1 .1 .1 .1 .0 in
+    let l : length (z .args .mark) ≡ 8 = search needs in
+    rw (c .wide .ensures .0) (begin w (c .before .start .ensures .within) (omega (arith, c .before .before .corners-of .ensures)) (c .before .start .ensures .last (z .args .parts .now)))
+
+seek-requires : tie.Need-seek-requires Inv-loop μ-loop
+seek-requires c κs = let z = c .before .before .before .before .before .before .before .before .before .before .before in (z .pre .0, (z .pre .1 .0, c .loop .inv .inside))
+
+cast-t : tie.Need-cast-t Inv-loop μ-loop
+cast-t c = omega arith
+
+mul-t : tie.Need-mul-t Inv-loop μ-loop
+mul-t c = omega arith
+
+array-write-t : tie.Need-array-write-t Inv-loop μ-loop
+array-write-t c = omega arith
+
+add-if2 : tie.Need-add-if2 Inv-loop μ-loop
+add-if2 c = omega arith
+
+add-d : tie.Need-add-d Inv-loop μ-loop
+add-d c = omega arith
+
+loop-less : tie.Need-loop-less Inv-loop μ-loop
+loop-less c =
+    let z = c .before .before .before .before .before .before .before .before .before .before .before .before .before .before in
+    let o = c .before .before .before .loop in
+    let s = c .before .before .seek in
+    less-descend (z .args .n) (c .before .before .before .before .before .before .corners-of .result) (o .t) (o .d) (o .lo) (s .result) (s .ensures (z .args .parts .now) .low (omega arith)) (omega arith) (omega (arith, o .inv .inside, o .inv .long)) (omega arith)
+
+loop-again : tie.Need-loop-again Inv-loop μ-loop
+loop-again c =
+    let z = c .before .before .before .before .before .before .before .before .before .before .before .before .before .before in
+    let w = laws-of (z .pre .1 .0) (z .args .kind) (z .args .mark) (z .args .parts .now) in
+    descend w (c .before .before .before .loop .inv) (c .before .before .seek .ensures (z .args .parts .now)) (omega arith) (omega (arith, c .before .before .before .before .before .before .corners-of .ensures .0))
+
+is-leaf-requires : tie.Need-is-leaf-requires Inv-loop μ-loop
+is-leaf-requires c κs = let z = c .before .before .before .before .before .before .before .before .before .before .before .before .before .before in (z .pre .0, record { close = z .pre .1 .0 .close; parts = z .pre .1 .1; indexed = z .pre .1 .0 .indexed })
+
+returns : tie.Need-returns Inv-loop μ-loop
+returns c =
+    let z = c .before .before .before .before .before .before .before .before .before .before .before .before .before .before .before .before .before in
+    let w = laws-of (z .pre .1 .0) (z .args .kind) (z .args .mark) (z .args .parts .now) in
+    let l = c .before .before .is-leaf .ensures in (
+      result w (c .before .before .before .before .before .before .loop .inv) (c .before .before .before .before .before .seek .ensures (z .args .parts .now)) (omega arith) (omega (arith, c .before .before .before .before .before .before .before .before .before .corners-of .ensures .0)) (sym (l .0) ∙ c .before .if3 .taken),
+      λ y. l .1 (c .before .if3 .taken),
+    )
+
+add-lo-2 : tie.Need-add-lo-2 Inv-loop μ-loop
+add-lo-2 c = let z = c .before .before .before .before .before .before .before .before .before .before .before .before .before .before .before .before in omega (arith, z .pre .1 .0 .few)
+
+loop-less-2 : tie.Need-loop-less-2 Inv-loop μ-loop
+loop-less-2 c =
+    let z = c .before .before .before .before .before .before .before .before .before .before .before .before .before .before .before .before in
+    let o = c .before .before .before .before .before .loop in
+    let s = c .before .before .before .before .seek in
+    less-reject (z .args .n) (c .before .before .before .before .before .before .before .before .corners-of .result) (o .t) (o .d) (o .lo) (s .result) (s .ensures (z .args .parts .now) .low (omega arith)) (omega arith)
+
+loop-again-2 : tie.Need-loop-again-2 Inv-loop μ-loop
+loop-again-2 c =
+    let z = c .before .before .before .before .before .before .before .before .before .before .before .before .before .before .before .before in
+    let w = laws-of (z .pre .1 .0) (z .args .kind) (z .args .mark) (z .args .parts .now) in
+    reject w (c .before .before .before .before .before .loop .inv) (c .before .before .before .before .seek .ensures (z .args .parts .now)) (omega arith) (omega (arith, c .before .before .before .before .before .before .before .before .corners-of .ensures .0)) (sym (c .before .is-leaf .ensures .0) ∙ c .if3 .left)
+
+no-tets-requires : tie.Need-no-tets-requires Inv-loop μ-loop
+no-tets-requires c κs = search needs
+
+returns-2 : tie.Need-returns-2 Inv-loop μ-loop
+returns-2 c =
+    let z = c .before .before .before .before .before .before .before .before .before .before .before .before .before .before .before in
+    let w = laws-of (z .pre .1 .0) (z .args .kind) (z .args .mark) (z .args .parts .now) in
+    (nothing w (c .before .before .before .before .loop .inv) (c .before .before .before .seek .ensures (z .args .parts .now)) (omega arith) (omega arith), λ y. absurd (true≢false (sym y)))
+
+sub-d : tie.Need-sub-d Inv-loop μ-loop
+sub-d c = omega arith
+
+mul-wide-2 : tie.Need-mul-wide-2 Inv-loop μ-loop
+mul-wide-2 c = omega arith
+
+array-read-wide-2 : tie.Need-array-read-wide-2 Inv-loop μ-loop
+array-read-wide-2 c = omega arith
+
+wide-requires-2 : tie.Need-wide-requires-2 Inv-loop μ-loop
+wide-requires-2 c κs = search needs
+
+add-lo-3 : tie.Need-add-lo-3 Inv-loop μ-loop
+add-lo-3 c = omega arith
+
+loop-less-3 : tie.Need-loop-less-3 Inv-loop μ-loop
+loop-less-3 c =
+    let z = c .before .before .before .before .before .before .before .before .before .before .before .before .before .before .before in
+    let o = c .before .before .before .before .loop in
+    rw (c .wide2 .ensures .0) (less-carry (z .args .n) (c .before .before .before .before .before .before .before .corners-of .result) (o .t) (o .d) (o .lo) (omega arith))
+
+loop-again-3 : tie.Need-loop-again-3 Inv-loop μ-loop
+loop-again-3 c =
+    let z = c .before .before .before .before .before .before .before .before .before .before .before .before .before .before .before in
+    let w = laws-of (z .pre .1 .0) (z .args .kind) (z .args .mark) (z .args .parts .now) in
+    rw (c .wide2 .ensures .0) (carry w (c .before .before .before .before .loop .inv) (c .before .before .before .seek .ensures (z .args .parts .now)) (omega arith) (omega arith))
+
+pub next-spec : {M : Type 1} → statement M
+next-spec =
+    tie.close
+    (tie.spec
+    Inv-loop
+    μ-loop
+    corners-of-requires
+    start-requires
+    mul-wide
+    array-read-wide
+    wide-requires
+    add-lo
+    loop-holds
+    seek-requires
+    cast-t
+    mul-t
+    array-write-t
+    add-if2
+    add-d
+    loop-less
+    loop-again
+    is-leaf-requires
+    returns
+    add-lo-2
+    loop-less-2
+    loop-again-2
+    no-tets-requires
+    returns-2
+    sub-d
+    mul-wide-2
+    array-read-wide-2
+    wide-requires-2
+    add-lo-3
+    loop-less-3
+    loop-again-3)

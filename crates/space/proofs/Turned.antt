@@ -1,0 +1,14 @@
+-- The number of three vertices does not depend on their order.
+-- Assumes nothing.
+use Prim.Native.Nat.{ℕ, _*_, _/_}
+use mathlib.Core.Path.{_≡_, sym, _∙_, ap}
+use native.Mathlib.Nat.{mul-comm, mul-assoc}
+use Rattle.space.specs.Spread.{odd, spread}
+
+pub spread-first : (u v w : ℕ) → spread u v w ≡ spread v u w
+unfolding spread
+spread-first u v w = ap (λ x. x * odd w / 2) (mul-comm (odd u) (odd v))
+
+pub spread-last : (u v w : ℕ) → spread u v w ≡ spread u w v
+unfolding spread
+spread-last u v w = ap (λ x. x / 2) (mul-assoc (odd u) (odd v) (odd w) ∙ ap (λ x. odd u * x) (mul-comm (odd v) (odd w)) ∙ sym (mul-assoc (odd u) (odd w) (odd v)))
