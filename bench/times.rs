@@ -5,7 +5,7 @@
 // The first program is ours and the second is the one that all are held to: a ratio is a time over
 // its time. Each program reads the mesh from its standard input. Processor time is taken, user and
 // system, so that a busy machine does little harm. The first two take turns, and of their runs the
-// shortest counts; any other is run once. All must print the same bytes.
+// second shortest counts; any other is run once. All must print the same bytes.
 // Exit status: 0 the targets are met; 1 one is missed, or two programs differ; 2 a program failed.
 use std::fs::File;
 use std::process::{exit, Command, Stdio};
@@ -54,17 +54,21 @@ fn run(program: &str, mesh: &str) -> f64 {
 }
 
 // Milliseconds of each program: five runs of the first two, and up to twenty as long as they fit
-// into half a second.
+// into half a second. Of several runs the second shortest counts: now and then the system tells next
+// to nothing for a whole run.
 fn times(programs: &[(&str, &str)], mesh: &str) -> Vec<f64> {
-    let mut best: Vec<f64> = programs.iter().map(|p| run(p.1, mesh)).collect();
+    let mut took: Vec<Vec<f64>> = programs.iter().map(|p| vec![run(p.1, mesh)]).collect();
     let (began, mut runs) = (Instant::now(), 1);
     while runs < 5 || runs < 20 && began.elapsed() < Duration::from_millis(500) {
         for i in 0..2 {
-            best[i] = best[i].min(run(programs[i].1, mesh));
+            took[i].push(run(programs[i].1, mesh));
         }
         runs += 1;
     }
-    best
+    for t in &mut took {
+        t.sort_by(f64::total_cmp);
+    }
+    took.iter().map(|t| t[t.len().min(2) - 1]).collect()
 }
 
 struct Row {
