@@ -1,4 +1,5 @@
-// Whether cells remain, at a glance: a pyramid of two of the last tetrahedra tells it without a search. Which are tried is a matter of speed alone.
+// Whether cells remain, at a glance: a pyramid of the last or the first tetrahedron and one beside it tells it without a search. Which are tried is a
+// matter of speed alone: at one end of the file the vertices mostly have great numbers, and so the pyramids come late in the list.
 use around::rarest;
 use around::row_of;
 use search::is_leaf;
@@ -14,9 +15,6 @@ ghost use Rattle.around.specs.Build.{Within};
 ghost use Rattle.verdict.specs.Judged.{Arrays};
 ghost use Rattle.levels.specs.Levels.{levels};
 ghost use Rattle.glance.specs.Seen.{Seen};
-
-// How many tetrahedra are tried, from the last on.
-const TRIED: usize = 2;
 
 // ---- pyramids of two tetrahedra
 
@@ -110,7 +108,7 @@ fn is_over(
     is_seen(tables, coords, labels, parts, n, offsets, entries, lo, r)
 }
 
-// The facet between u at place i of e and w, seen from inside e: e's vertices from another place on are mirrored.
+// The same over the facet of e that lies opposite its place i. Turned by one place, four vertices are mirrored: at places 1 and 3 two are exchanged.
 fn is_across(
     tables: &[u8],
     coords: &[i64],
@@ -211,7 +209,7 @@ fn is_beside(
     )
 }
 
-// ---- the last tetrahedra
+// ---- the last and the first tetrahedron
 
 // A pyramid of e and one of the row.
 fn is_in(
@@ -308,24 +306,22 @@ pub fn sees(
     ensures { λ r. ⌜ (r ≡ true → Seen (meshOf (now (coords .entry)) (now (labels .entry)) (now (parts .entry))) lo) ⌝ }
 {
     let t = labels.len() / 4;
-    let mut i = 1;
-    while i <= TRIED {
-        if i <= t {
-            if is_at(
-                tables,
-                coords,
-                labels,
-                parts,
-                n,
-                offsets,
-                entries,
-                lo,
-                Tet((t - i) as u16),
-            ) {
-                return true;
-            }
-        }
-        i += 1;
+    if t == 0 {
+        return false;
     }
-    false
+    let last = Tet((t - 1) as u16);
+    if is_at(tables, coords, labels, parts, n, offsets, entries, lo, last) {
+        return true;
+    }
+    is_at(
+        tables,
+        coords,
+        labels,
+        parts,
+        n,
+        offsets,
+        entries,
+        lo,
+        Tet(0),
+    )
 }
