@@ -10,7 +10,8 @@ use lib.ListN.{length, getD, length-append}
 use Rattle.base.specs.Lists.{keep, spread, from, upTo}
 use Rattle.base.proofs.Lists.{both-left, both-right}
 use Rattle.neighbours.specs.Table.{rowOf, rowsOf}
-use Rattle.neighbours.specs.Marks.{isOne, ofTet, near, nearBy, Few}
+use Rattle.matrix.specs.Matrix.{isOne, ofTet, joinedBy, nextTo}
+use Rattle.neighbours.specs.Grown.{Few}
 
 -- ---- counting
 module _ {A B : Type 0} where
@@ -153,9 +154,9 @@ abbrev twelveOf : List ℕ → ℕ → ℕ → ℕ → Bool
 twelveOf l t = twelve (getD l (4 * t) 0) (getD l (4 * t + 1) 0) (getD l (4 * t + 2) 0) (getD l (4 * t + 3) 0)
 
 -- one tetrahedron more
-one-more : (l : List ℕ) (t u v : ℕ) → nearBy (near l (suc t)) u v ≡ true → (nearBy (near l t) u v || twelveOf l t u v) ≡ true
-unfolding near
-one-more l t u v h = go (eqb u v) (near l t u v) refl h
+one-more : (l : List ℕ) (t u v : ℕ) → nextTo (joinedBy l (suc t)) u v ≡ true → (nextTo (joinedBy l t) u v || twelveOf l t u v) ≡ true
+unfolding joinedBy
+one-more l t u v h = go (eqb u v) (joinedBy l t u v) refl h
   where
     go : (e f : Bool) → eqb u v ≡ e → (not e && (f || (ofTet l t v && ofTet l t u))) ≡ true → ((not e && f) || twelveOf l t u v) ≡ true
     go true f p h = absurd (false≢true h)
@@ -164,25 +165,25 @@ one-more l t u v h = go (eqb u v) (near l t u v) refl h
         among (getD l (4 * t) 0) (getD l (4 * t + 1) 0) (getD l (4 * t + 2) 0) (getD l (4 * t + 3) 0) u v p
         (both-left (ofTet l t v) (ofTet l t u) h) (both-right (ofTet l t v) (ofTet l t u) h)
 
-size-near : (l : List ℕ) (n k t : ℕ) → size (nearBy (near l t)) n k ≤ 12 * t
-unfolding near
+size-near : (l : List ℕ) (n k t : ℕ) → size (nextTo (joinedBy l t)) n k ≤ 12 * t
+unfolding joinedBy
 size-near l n k zero =
-    spread-one (λ u. keep (nearBy (near l zero) u) (upTo n)) 0 0 0 k (λ u h. none u) none
+    spread-one (λ u. keep (nextTo (joinedBy l zero) u) (upTo n)) 0 0 0 k (λ u h. none u) none
   where
-    none : (u : ℕ) → length (keep (nearBy (near l zero) u) (upTo n)) ≤ 0
-    none u = keep-none (nearBy (near l zero) u) (upTo n) (λ v. and-false (not (eqb u v)))
+    none : (u : ℕ) → length (keep (nextTo (joinedBy l zero) u) (upTo n)) ≤ 0
+    none u = keep-none (nextTo (joinedBy l zero) u) (upTo n) (λ v. and-false (not (eqb u v)))
 size-near l n k (suc t) =
     omega (
       arith,
-      size-le (nearBy (near l (suc t))) (nearBy (near l t)) (twelveOf l t) n k (one-more l t),
+      size-le (nextTo (joinedBy l (suc t))) (nextTo (joinedBy l t)) (twelveOf l t) n k (one-more l t),
       size-near l n k t,
       size-twelve (getD l (4 * t) 0) (getD l (4 * t + 1) 0) (getD l (4 * t + 2) 0) (getD l (4 * t + 3) 0) n k,
     )
 
 -- at most 12 neighbours for each tetrahedron
-pub rows-few : (l : List ℕ) (n k t : ℕ) → length (rowsOf (rowOf (near l t) n) k) ≤ 12 * t
+pub rows-few : (l : List ℕ) (n k t : ℕ) → length (rowsOf (rowOf (joinedBy l t) n) k) ≤ 12 * t
 unfolding rowsOf rowOf
 rows-few l n k t = size-near l n k t
 
-pub few : (l : List ℕ) (n : ℕ) → length l ≤ 8192 → Few (rowOf (near l (length l / 4)) n)
+pub few : (l : List ℕ) (n : ℕ) → length l ≤ 8192 → Few (rowOf (joinedBy l (length l / 4)) n)
 few l n h k = omega (arith, rows-few l n k (length l / 4))

@@ -1,8 +1,6 @@
 pub mod Rows
 pub mod Growing
-pub mod Marking
 pub mod Law
 pub mod Tets
 pub mod Whole
 pub mod Reading
-pub mod Worked

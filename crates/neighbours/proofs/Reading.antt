@@ -15,7 +15,7 @@ use Rattle.base.proofs.Members.{keep-has, from-has}
 use Rattle.space.specs.Mesh.{Mesh, together}
 use Rattle.neighbours.specs.declared.Row.{Row}
 use Rattle.neighbours.specs.Table.{rowOf, rowsOf, offsets, tableBy, neighboursOf, tableOf}
-use Rattle.neighbours.specs.Marks.{nearBy}
+use Rattle.matrix.specs.Matrix.{nextTo}
 use Rattle.neighbours.specs.Reading.{Tabled, RowOf, entriesOf}
 use Rattle.neighbours.proofs.Rows.{offs, offs-all, length-offs, rows-more, rows-up, rows-le, length-table}
 
@@ -100,13 +100,13 @@ module _ {m : Mesh} {n : ℕ} {xs : List ℕ} (d : Tabled m n xs) where
 module _ (m : Mesh) (n u : ℕ) where
   pub row-rises : (i j : ℕ) → i < j → j < length (neighboursOf m n u) → getD (neighboursOf m n u) i 0 < getD (neighboursOf m n u) j 0
   unfolding neighboursOf rowOf
-  row-rises i j = kept-rises (nearBy (λ u v. together m (u ∷ v ∷ [])) u) 0 n i j
+  row-rises i j = kept-rises (nextTo (λ u v. together m (u ∷ v ∷ [])) u) 0 n i j
 
   pub row-has : (v : ℕ) → v < n → eqb u v ≡ false → together m (u ∷ v ∷ []) ≡ true → (i : ℕ) × (i < length (neighboursOf m n u)) × (getD (neighboursOf m n u) i 0 ≡ v)
   unfolding neighboursOf rowOf
   row-has v l e t =
       place-of (neighboursOf m n u)
-      (keep-has (nearBy (λ u v. together m (u ∷ v ∷ [])) u) (upTo n) (from-has 0 n v (omega arith) (omega arith)) (rw (e, t)))
+      (keep-has (nextTo (λ u v. together m (u ∷ v ∷ [])) u) (upTo n) (from-has 0 n v (omega arith) (omega arith)) (rw (e, t)))
 
 -- the same of the entries that stand in the table
 module _ {m : Mesh} {n : ℕ} {table : List ℕ} {u : ℕ} {r : Row} (w : RowOf m n table u r) where

@@ -13,7 +13,8 @@ use Rattle.base.proofs.Lists.{keep-append}
 use Rattle.base.proofs.Loop.{length-from}
 use Rattle.base.proofs.Runs.{spread-append, map-append, from-add, upTo-more, keep-same}
 use Rattle.neighbours.specs.Table.{rowOf, rowsOf, offsets, tableBy}
-use Rattle.neighbours.specs.Marks.{nearBy, partOf}
+use Rattle.matrix.specs.Matrix.{nextTo}
+use Rattle.neighbours.specs.Grown.{partOf}
 
 -- ---- a part of a row
 module _ (f : ℕ → ℕ → Bool) (u v : ℕ) where
@@ -22,16 +23,16 @@ module _ (f : ℕ → ℕ → Bool) (u v : ℕ) where
   part-none = refl
 
   pub part-add : (j k : ℕ) → partOf f u v (j + k) ≡ partOf f u v j ++ partOf f u (v + j) k
-  part-add j k = ap (keep (nearBy f u)) (from-add v j k) ∙ keep-append (nearBy f u) (from v j) (from (v + j) k)
+  part-add j k = ap (keep (nextTo f u)) (from-add v j k) ∙ keep-append (nextTo f u) (from v j) (from (v + j) k)
 
-  part-more : (j : ℕ) → partOf f u v (j + 1) ≡ partOf f u v j ++ cond (nearBy f u (v + j)) ((v + j) ∷ []) []
+  part-more : (j : ℕ) → partOf f u v (j + 1) ≡ partOf f u v j ++ cond (nextTo f u (v + j)) ((v + j) ∷ []) []
   unfolding keep
   part-more j = part-add j 1
 
-  pub part-yes : (j : ℕ) → nearBy f u (v + j) ≡ true → partOf f u v (j + 1) ≡ partOf f u v j ++ (v + j) ∷ []
+  pub part-yes : (j : ℕ) → nextTo f u (v + j) ≡ true → partOf f u v (j + 1) ≡ partOf f u v j ++ (v + j) ∷ []
   part-yes j h = part-more j ∙ ap (λ b. partOf f u v j ++ cond b ((v + j) ∷ []) []) h
 
-  pub part-no : (j : ℕ) → nearBy f u (v + j) ≡ false → partOf f u v (j + 1) ≡ partOf f u v j
+  pub part-no : (j : ℕ) → nextTo f u (v + j) ≡ false → partOf f u v (j + 1) ≡ partOf f u v j
   part-no j h = part-more j ∙ ap (λ b. partOf f u v j ++ cond b ((v + j) ∷ []) []) h ∙ append-nil (partOf f u v j)
 
   pub part-le : (j k : ℕ) → j ≤ k → length (partOf f u v j) ≤ length (partOf f u v k)
@@ -39,11 +40,11 @@ module _ (f : ℕ → ℕ → Bool) (u v : ℕ) where
       let e : k ≡ j + (k - j) = omega arith in
       omega (arith, ap (λ i. length (partOf f u v i)) e, ap length (part-add j (k - j)), length-append (partOf f u v j) (partOf f u (v + j) (k - j)))
 
-  -- no mark, no entry
+  -- nothing joined, no entry
   pub part-blank : (k : ℕ) → ((i : ℕ) → i < k → f u (v + i) ≡ false) → partOf f u v k ≡ []
   part-blank zero h = part-none
   part-blank (suc k) h =
-      let n : nearBy f u (v + k) ≡ false = ap (λ t. not (eqb u (v + k)) && t) (h k (omega arith)) ∙ and-false (not (eqb u (v + k))) in
+      let n : nextTo f u (v + k) ≡ false = ap (λ t. not (eqb u (v + k)) && t) (h k (omega arith)) ∙ and-false (not (eqb u (v + k))) in
       ap (partOf f u v) (sym (add-one k)) ∙ part-no k n ∙ part-blank k (λ i l. h i (omega arith))
 
 -- ---- a row
@@ -106,4 +107,4 @@ module _ (row : ℕ → List ℕ) where
 -- ---- the same row by another test
 pub row-same : (f g : ℕ → ℕ → Bool) (n : ℕ) → n ≤ 512 → ((x y : ℕ) → y < 512 → f x y ≡ g x y) → rowOf f n ≡ rowOf g n
 unfolding rowOf
-row-same f g n b h = fun-ext (λ u. keep-same (nearBy f u) (nearBy g u) 0 n (λ v l. ap (λ t. not (eqb u v) && t) (h u v (omega arith))))
+row-same f g n b h = fun-ext (λ u. keep-same (nextTo f u) (nextTo g u) 0 n (λ v l. ap (λ t. not (eqb u v) && t) (h u v (omega arith))))

@@ -12,7 +12,7 @@ use Rattle.base.proofs.Runs.{any-map, any-snoc, upTo-more}
 use Rattle.space.specs.Mesh.{together, holds}
 use Rattle.space.specs.Arrays.{row4, tetAt, meshOf}
 use Rattle.neighbours.specs.Table.{rowOf, neighboursOf, tableBy, tableOf}
-use Rattle.neighbours.specs.Marks.{near, ofTet, isOne}
+use Rattle.matrix.specs.Matrix.{joinedBy, ofTet, isOne}
 
 -- tetrahedron i has these vertices
 abbrev hasAll : List ℕ → List ℕ → ℕ → Bool
@@ -32,8 +32,8 @@ same l i u v =
     ∙ ap (λ t. t && isIn u (row4 l i)) (four (eqb v (getD l (4 * i) 0)) (eqb v (getD l (4 * i + 1) 0)) (eqb v (getD l (4 * i + 2) 0)) (eqb v (getD l (4 * i + 3) 0)))
     ∙ ap (λ t. ofTet l i v && t) (four (eqb u (getD l (4 * i) 0)) (eqb u (getD l (4 * i + 1) 0)) (eqb u (getD l (4 * i + 2) 0)) (eqb u (getD l (4 * i + 3) 0)))
 
-near-any : (l : List ℕ) (t u v : ℕ) → near l t u v ≡ any (hasAll l (u ∷ v ∷ [])) (upTo t)
-unfolding near
+near-any : (l : List ℕ) (t u v : ℕ) → joinedBy l t u v ≡ any (hasAll l (u ∷ v ∷ [])) (upTo t)
+unfolding joinedBy
 near-any l zero u v = refl
 near-any l (suc t) u v =
     ap (λ b. b || (ofTet l t v && ofTet l t u)) (near-any l t u v)
@@ -42,15 +42,15 @@ near-any l (suc t) u v =
     ∙ ap (any (hasAll l (u ∷ v ∷ []))) (sym (upTo-more t) ∙ ap upTo (add-one t))
 
 module _ (zs : List ℤ) (l ps : List ℕ) where
-  pub near-together : (u v : ℕ) → near l (length l / 4) u v ≡ together (meshOf zs l ps) (u ∷ v ∷ [])
+  pub near-together : (u v : ℕ) → joinedBy l (length l / 4) u v ≡ together (meshOf zs l ps) (u ∷ v ∷ [])
   unfolding together
   near-together u v =
       near-any l (length l / 4) u v ∙ sym (any-map (holds (u ∷ v ∷ [])) (tetAt l ps) (upTo (length l / 4)))
 
-  pub near-row : (n : ℕ) → rowOf (near l (length l / 4)) n ≡ neighboursOf (meshOf zs l ps) n
+  pub near-row : (n : ℕ) → rowOf (joinedBy l (length l / 4)) n ≡ neighboursOf (meshOf zs l ps) n
   unfolding neighboursOf
   near-row n = ap (λ f. rowOf f n) (fun-ext (λ u. fun-ext (near-together u)))
 
-  pub near-table : (n : ℕ) → tableBy (rowOf (near l (length l / 4)) n) n ≡ tableOf (meshOf zs l ps) n
+  pub near-table : (n : ℕ) → tableBy (rowOf (joinedBy l (length l / 4)) n) n ≡ tableOf (meshOf zs l ps) n
   unfolding tableOf
   near-table n = ap (λ r. tableBy r n) (near-row n)

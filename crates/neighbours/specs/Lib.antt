@@ -1,4 +1,3 @@
 pub mod Table
 pub mod Grown
-pub mod Marks
 pub mod Reading

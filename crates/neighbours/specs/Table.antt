@@ -25,6 +25,14 @@ offsets row n = map (λ u. length (rowsOf row u)) (upTo (n + 1))
 unfoldable pub tableBy : (ℕ → List ℕ) → ℕ → List ℕ
 tableBy row n = offsets row n ++ rowsOf row n
 
+-- the answer for a slice of this many entries, where the table is xs
+abbrev pub filledBy : List ℕ → ℕ → Filled
+filledBy xs room = cond (ltb room (length xs)) Short (Entries (length xs))
+
+-- and what the slice holds at exit
+abbrev pub laidBy : List ℕ → List ℕ → List ℕ
+laidBy xs old = cond (ltb (length old) (length xs)) old (xs ++ drop (length xs) old)
+
 module _ (m : Mesh) (n : ℕ) where
   -- the neighbours of u, rising: other vertices, below n, that stand with it in a tetrahedron
   unfoldable pub neighboursOf : ℕ → List ℕ
@@ -34,15 +42,8 @@ module _ (m : Mesh) (n : ℕ) where
   unfoldable pub tableOf : List ℕ
   tableOf = tableBy neighboursOf n
 
-  -- the answer for a slice of this many entries
   unfoldable pub filledOf : ℕ → Filled
-  filledOf room = cond (ltb room (length tableOf)) Short (Entries (length tableOf))
+  filledOf room = filledBy tableOf room
 
-  -- what the slice holds at exit
   unfoldable pub tableAfter : List ℕ → List ℕ
-  tableAfter old = cond (ltb (length old) (length tableOf)) old (tableOf ++ drop (length tableOf) old)
-
--- the number of a refusal, and 0 for a table that was filled
-abbrev pub fillNumber : Filled → ℕ
-fillNumber (Entries k) = 0
-fillNumber Short = 10
+  tableAfter old = laidBy tableOf old

@@ -1,4 +1,7 @@
 // The neighbour table of a mesh, from the vertex numbers of its tetrahedra, written into a lent slice.
+use matrix::is_blank;
+use matrix::is_next;
+use matrix::join_all;
 use space::Vertex;
 ghost use mathlib.Core.Path.{_≡_};
 ghost use mathlib.Core.List.{[], _++_};
@@ -8,10 +11,10 @@ ghost use lib.ListN.{length, getD};
 ghost use Rattle.base.specs.Laid.{Laid};
 ghost use Rattle.space.specs.Arrays.{meshOf};
 ghost use Rattle.around.specs.Index.{Labelled};
-ghost use Rattle.neighbours.specs.Table.{rowOf, rowsOf, offsets, filledOf, tableAfter};
-ghost use Rattle.neighbours.specs.Grown.{Grown};
+ghost use Rattle.neighbours.specs.Table.{rowOf, rowsOf, offsets, filledBy, laidBy, filledOf, tableAfter};
+ghost use Rattle.neighbours.specs.Grown.{Grown, partOf, Few};
 ghost use Rattle.neighbours.specs.Reading.{Tabled, RowOf};
-ghost use Rattle.neighbours.specs.Marks.{near, hit, Adds, point, line, square, Few, nearBy, Blank, partOf};
+ghost use Rattle.matrix.specs.Matrix.{isJoined, Empty};
 
 // A row of the table: where it starts, and how many entries it has.
 pub struct Row {
@@ -30,98 +33,20 @@ fn wide(x: u16) -> usize
     x as usize
 }
 
-// ---- a matrix of marks, 512 to a row
-
-fn mark(m: &mut [u8; 262144], u: usize, v: usize)
-    requires { ⌜ (length (now m) ≡ 262144) × (u < 512) × (v < 512) ⌝ }
-    ensures { λ r. ⌜ Adds (now (m .entry)) (now (m .exit)) (point u v) ⌝ }
-{
-    m[u * 512 + v] = 1;
-}
-
-fn mark_row(m: &mut [u8; 262144], u: usize, a: usize, b: usize, c: usize, d: usize)
-    requires { ⌜ (length (now m) ≡ 262144) × (u < 512) × ((a < 512) × (b < 512)) × ((c < 512) × (d < 512)) ⌝ }
-    ensures { λ r. ⌜ Adds (now (m .entry)) (now (m .exit)) (line u a b c d) ⌝ }
-{
-    mark(m, u, a);
-    mark(m, u, b);
-    mark(m, u, c);
-    mark(m, u, d);
-}
-
-fn mark_tet(m: &mut [u8; 262144], a: usize, b: usize, c: usize, d: usize)
-    requires { ⌜ (length (now m) ≡ 262144) × ((a < 512) × (b < 512)) × ((c < 512) × (d < 512)) ⌝ }
-    ensures { λ r. ⌜ Adds (now (m .entry)) (now (m .exit)) (square a b c d) ⌝ }
-{
-    mark_row(m, a, a, b, c, d);
-    mark_row(m, b, a, b, c, d);
-    mark_row(m, c, a, b, c, d);
-    mark_row(m, d, a, b, c, d);
-}
-
-fn label(labels: &[u16], k: usize) -> usize
-    requires { ⌜ k < length (now labels) ⌝ }
-    ensures { λ r. ⌜ r ≡ getD (now (labels .entry)) k 0 ⌝ }
-{
-    wide(labels[k])
-}
-
-fn mark_all(m: &mut [u8; 262144], labels: &[u16])
-    requires { ⌜ (length (now m) ≡ 262144) × ((k : ℕ) → k < length (now labels) → getD (now labels) k 0 < 512) ⌝ }
-    ensures { λ r. ⌜ Adds (now (m .entry)) (now (m .exit)) (near (now (labels .entry)) (length (now (labels .entry)) / 4)) ⌝ }
-{
-    let t = labels.len() / 4;
-    let mut i = 0;
-    while i < t {
-        let j = 4 * i;
-        let a = label(labels, j);
-        let b = label(labels, j + 1);
-        let c = label(labels, j + 2);
-        let d = label(labels, j + 3);
-        mark_tet(m, a, b, c, d);
-        i += 1;
-    }
-}
-
-// ---- rows of marks
-
-fn is_near(m: &[u8; 262144], u: usize, v: usize) -> bool
-    requires { ⌜ (u < 512) × (v < 512) ⌝ }
-    ensures { λ r. ⌜ r ≡ nearBy (hit (now (m .entry))) u v ⌝ }
-{
-    if u == v {
-        return false;
-    }
-    m[u * 512 + v] != 0
-}
-
-// Whether row u has no mark at the 16 vertices from v on. No place is tested alone, so that the compiler reads all 16 at once.
-fn is_blank(m: &[u8; 262144], u: usize, v: usize) -> bool
-    requires { ⌜ (u < 512) × (v + 16 ≤ 512) ⌝ }
-    ensures { λ r. ⌜ (r ≡ true → Blank (now (m .entry)) u v 16) ⌝ }
-{
-    let from = u * 512 + v;
-    let mut x = 0;
-    let mut i = 0;
-    while i < 16 {
-        x = x | m[from + i];
-        i += 1;
-    }
-    x == 0
-}
+// ---- rows
 
 // Writes from `from` on those of the k vertices from v on that are next to u; the answer is where the next entry goes.
 // Every vertex is written, and counted where it is next to u: a branch would be slower. What stands behind the answer is not told.
 fn put_part(m: &[u8; 262144], u: usize, v: usize, k: usize, rows: &mut [u16], from: usize) -> usize
-    requires { ⌜ ((u < 512) × (v + k ≤ 512)) × (from + length (partOf (hit (now m)) u v k) < length (now rows)) ⌝ }
-    ensures { λ r. ⌜ Grown from r (partOf (hit (now (m .entry))) u v k) (now (rows .entry)) (now (rows .exit)) ⌝ }
+    requires { ⌜ ((u < 512) × (v + k ≤ 512)) × (from + length (partOf (isJoined (now m)) u v k) < length (now rows)) ⌝ }
+    ensures { λ r. ⌜ Grown from r (partOf (isJoined (now (m .entry))) u v k) (now (rows .entry)) (now (rows .exit)) ⌝ }
 {
     let mut at = from;
     let mut i = 0;
     while i < k {
         let w = v + i;
         rows[at] = w as u16;
-        if is_near(m, u, w) {
+        if is_next(m, u, w) {
             at += 1;
         }
         i += 1;
@@ -129,10 +54,10 @@ fn put_part(m: &[u8; 262144], u: usize, v: usize, k: usize, rows: &mut [u16], fr
     at
 }
 
-// The same for 16 vertices at once: most blocks of a row have no mark.
+// The same for 16 vertices at once: most blocks of a row have none.
 fn put_block(m: &[u8; 262144], u: usize, v: usize, rows: &mut [u16], from: usize) -> usize
-    requires { ⌜ ((u < 512) × (v + 16 ≤ 512)) × (from + length (partOf (hit (now m)) u v 16) < length (now rows)) ⌝ }
-    ensures { λ r. ⌜ Grown from r (partOf (hit (now (m .entry))) u v 16) (now (rows .entry)) (now (rows .exit)) ⌝ }
+    requires { ⌜ ((u < 512) × (v + 16 ≤ 512)) × (from + length (partOf (isJoined (now m)) u v 16) < length (now rows)) ⌝ }
+    ensures { λ r. ⌜ Grown from r (partOf (isJoined (now (m .entry))) u v 16) (now (rows .entry)) (now (rows .exit)) ⌝ }
 {
     if is_blank(m, u, v) {
         return from;
@@ -142,8 +67,8 @@ fn put_block(m: &[u8; 262144], u: usize, v: usize, rows: &mut [u16], from: usize
 
 // Writes one row from `from` on: whole blocks, then the vertices that are left.
 fn put_row(m: &[u8; 262144], n: usize, u: usize, rows: &mut [u16], from: usize) -> usize
-    requires { ⌜ ((u < 512) × (n ≤ 512)) × (from + length (rowOf (hit (now m)) n u) < length (now rows)) ⌝ }
-    ensures { λ r. ⌜ Grown from r (rowOf (hit (now (m .entry))) n u) (now (rows .entry)) (now (rows .exit)) ⌝ }
+    requires { ⌜ ((u < 512) × (n ≤ 512)) × (from + length (rowOf (isJoined (now m)) n u) < length (now rows)) ⌝ }
+    ensures { λ r. ⌜ Grown from r (rowOf (isJoined (now (m .entry))) n u) (now (rows .entry)) (now (rows .exit)) ⌝ }
 {
     let mut at = from;
     let mut v = 0;
@@ -156,9 +81,9 @@ fn put_row(m: &[u8; 262144], n: usize, u: usize, rows: &mut [u16], from: usize) 
 
 // Writes all rows, and where each starts; the answer is how many entries they have.
 fn put_rows(m: &[u8; 262144], n: usize, starts: &mut [u16], rows: &mut [u16]) -> usize
-    requires { ⌜ ((n ≤ 512) × (n < length (now starts))) × ((24576 < length (now rows)) × Few (rowOf (hit (now m)) n)) ⌝ }
-    ensures offsets { λ r. ⌜ Grown 0 (n + 1) (offsets (rowOf (hit (now (m .entry))) n) n) (now (starts .entry)) (now (starts .exit)) ⌝ }
-    ensures entries { λ r. ⌜ Grown 0 r (rowsOf (rowOf (hit (now (m .entry))) n) n) (now (rows .entry)) (now (rows .exit)) ⌝ }
+    requires { ⌜ ((n ≤ 512) × (n < length (now starts))) × ((24576 < length (now rows)) × Few (rowOf (isJoined (now m)) n)) ⌝ }
+    ensures offsets { λ r. ⌜ Grown 0 (n + 1) (offsets (rowOf (isJoined (now (m .entry))) n) n) (now (starts .entry)) (now (starts .exit)) ⌝ }
+    ensures entries { λ r. ⌜ Grown 0 r (rowsOf (rowOf (isJoined (now (m .entry))) n) n) (now (rows .entry)) (now (rows .exit)) ⌝ }
 {
     let mut at = 0;
     let mut u = 0;
@@ -193,35 +118,53 @@ fn put_table(starts: &[u16], rows: &[u16], table: &mut [u16])
     put(table, starts.len(), rows);
 }
 
+// Whether the slice has room for the table of these offsets and rows; it is written where it has, if it is wanted.
+fn put_if(starts: &[u16], rows: &[u16], wanted: bool, table: &mut [u16]) -> Filled
+    requires { ⌜ length (now starts) + length (now rows) ≤ 25089 ⌝ }
+    ensures answer { λ r. ⌜ r ≡ filledBy (now (starts .entry) ++ now (rows .entry)) (length (now (table .entry))) ⌝ }
+    ensures content { λ r. ⌜ now (table .exit) ≡ cond wanted (laidBy (now (starts .entry) ++ now (rows .entry)) (now (table .entry))) (now (table .entry)) ⌝ }
+{
+    let size = starts.len() + rows.len();
+    if table.len() < size {
+        return Filled::Short;
+    }
+    if wanted {
+        put_table(starts, rows, table);
+    }
+    Filled::Entries(size)
+}
+
+// The same for the neighbour table of n vertices, made in an empty matrix and in rooms for the offsets and the rows.
+fn fill_by(
+    m: &mut [u8; 262144],
+    starts: &mut [u16],
+    rows: &mut [u16],
+    labels: &[u16],
+    n: usize,
+    wanted: bool,
+    table: &mut [u16],
+) -> Filled
+    requires { ⌜ (n ≤ 512) × (Labelled (now labels) n × Empty (now m)) ⌝ }
+    requires { ⌜ (n < length (now starts)) × (24576 < length (now rows)) ⌝ }
+    ensures answer { λ r. ⌜ r ≡ filledOf (meshOf [] (now (labels .entry)) []) n (length (now (table .entry))) ⌝ }
+    ensures content { λ r. ⌜ now (table .exit) ≡ cond wanted (tableAfter (meshOf [] (now (labels .entry)) []) n (now (table .entry))) (now (table .entry)) ⌝ }
+{
+    join_all(m, labels);
+    let e = put_rows(m, n, starts, rows);
+    put_if(&starts[..n + 1], &rows[..e], wanted, table)
+}
+
 // Whether the slice has room for the neighbour table of n vertices; the table is written where it has, if it is wanted.
+// It is made in local room, since the slice must stay as it is where it is too short. A row's writing needs one entry more than it fills.
 pub fn fill_if(labels: &[u16], n: usize, wanted: bool, table: &mut [u16]) -> Filled
     requires { ⌜ (n ≤ 512) × Labelled (now labels) n ⌝ }
     ensures answer { λ r. ⌜ r ≡ filledOf (meshOf [] (now (labels .entry)) []) n (length (now (table .entry))) ⌝ }
     ensures content { λ r. ⌜ now (table .exit) ≡ cond wanted (tableAfter (meshOf [] (now (labels .entry)) []) n (now (table .entry))) (now (table .entry)) ⌝ }
 {
     let mut m = [0u8; 262144];
-    mark_all(&mut m, labels);
-    // The table is made here, since the slice must stay as it is where it is too short. A row's writing needs one entry more than it fills.
     let mut starts = [0u16; 513];
     let mut rows = [0u16; 24577];
-    let e = put_rows(&m, n, &mut starts, &mut rows);
-    let size = n + 1 + e;
-    if table.len() < size {
-        return Filled::Short;
-    }
-    if wanted {
-        put_table(&starts[..n + 1], &rows[..e], table);
-    }
-    Filled::Entries(size)
-}
-
-// The neighbour table of n vertices, where the slice has room for it.
-pub fn fill(labels: &[u16], n: usize, table: &mut [u16]) -> Filled
-    requires { ⌜ (n ≤ 512) × Labelled (now labels) n ⌝ }
-    ensures answer { λ r. ⌜ r ≡ filledOf (meshOf [] (now (labels .entry)) []) n (length (now (table .entry))) ⌝ }
-    ensures content { λ r. ⌜ now (table .exit) ≡ tableAfter (meshOf [] (now (labels .entry)) []) n (now (table .entry)) ⌝ }
-{
-    fill_if(labels, n, true, table)
+    fill_by(&mut m, &mut starts, &mut rows, labels, n, wanted, table)
 }
 
 // ---- reading a table

@@ -1,5 +1,5 @@
 use borrow.Author.Needs.{needs}
-use Rattle.neighbours.specs.Marks.{hit}
+use Rattle.matrix.specs.Matrix.{isJoined}
 use Rattle.neighbours.proofs.Rows.{part-blank}
 use Rattle.neighbours.proofs.Growing.{grown-none}
 use Rattle.neighbours.proofs.put_block.Statement.{statement}
@@ -11,7 +11,7 @@ is-blank-requires c κs = search needs
 returns : tie.Need-returns
 returns c =
     let a = c .before .before .before .args in
-    grown-none (a .from) _ (a .rows .now) (part-blank (hit (a .m .now)) (a .u) (a .v) 16 (c .before .is-blank .ensures (c .if1 .taken)))
+    grown-none (a .from) _ (a .rows .now) (part-blank (isJoined (a .m .now)) (a .u) (a .v) 16 (c .before .is-blank .ensures (c .if1 .taken)))
 
 put-part-requires : tie.Need-put-part-requires
 put-part-requires c κs = search needs

@@ -5,15 +5,15 @@ use Prim.Native.Nat.{ℕ, _+_, _-_, _≤_, _<_}
 use native.Mathlib.Omega.{arith}
 use borrow.Author.Needs.{needs}
 use lib.ListN.{length}
-use Rattle.neighbours.specs.Grown.{Grown}
-use Rattle.neighbours.specs.Marks.{hit, partOf}
+use Rattle.neighbours.specs.Grown.{Grown, partOf}
+use Rattle.matrix.specs.Matrix.{isJoined}
 use Rattle.neighbours.proofs.Rows.{part-none, part-yes, part-no, part-le}
 use Rattle.neighbours.proofs.Growing.{grown-none, grown-set, grown-past}
 use Rattle.neighbours.proofs.put_part.Statement.{statement}
 use Rattle.neighbours.proofs.put_part.Tie as tie
 
 abbrev Inv-loop : tie.InvT-loop
-Inv-loop m u v k rows₀ from at₀ i₀ rows at i = (i ≤ k) × (at < length rows₀) × Grown from at (partOf (hit m) u v i) rows₀ rows
+Inv-loop m u v k rows₀ from at₀ i₀ rows at i = (i ≤ k) × (at < length rows₀) × Grown from at (partOf (isJoined m) u v i) rows₀ rows
 
 abbrev μ-loop : tie.MeasureT-loop
 μ-loop m u v k rows₀ from at₀ i₀ rows at i = k - i
@@ -21,7 +21,7 @@ abbrev μ-loop : tie.MeasureT-loop
 loop-holds : tie.Need-loop-holds Inv-loop μ-loop
 loop-holds c =
     let a = c .before .args in
-    (omega arith, omega arith, grown-none (a .from) _ (a .rows .now) (part-none (hit (a .m .now)) (a .u) (a .v)))
+    (omega arith, omega arith, grown-none (a .from) _ (a .rows .now) (part-none (isJoined (a .m .now)) (a .u) (a .v)))
 
 add-w : tie.Need-add-w Inv-loop μ-loop
 add-w c = search needs
@@ -35,8 +35,8 @@ mul-rows c = search needs
 slice-write-rows : tie.Need-slice-write-rows Inv-loop μ-loop
 slice-write-rows c = search needs
 
-is-near-requires : tie.Need-is-near-requires Inv-loop μ-loop
-is-near-requires c κs = search needs
+is-next-requires : tie.Need-is-next-requires Inv-loop μ-loop
+is-next-requires c κs = search needs
 
 add-at : tie.Need-add-at Inv-loop μ-loop
 add-at c = search needs
@@ -51,14 +51,14 @@ loop-again : tie.Need-loop-again Inv-loop μ-loop
 loop-again c =
     let a = c .before .before .before .before .before .args in
     let l = c .before .before .before .loop in
-    let f = hit (a .m .now) in
+    let f = isJoined (a .m .now) in
     let g = l .inv .2 in
     let e = part-le f (a .u) (a .v) (l .i + 1) (a .k) (omega arith) in
     ⊎-elim
     (λ w.
-    let d = grown-set g (a .v + l .i) (l .inv .1) (part-yes f (a .u) (a .v) (l .i) (sym (c .before .is-near .ensures) ∙ w .0 .taken)) in
+    let d = grown-set g (a .v + l .i) (l .inv .1) (part-yes f (a .u) (a .v) (l .i) (sym (c .before .is-next .ensures) ∙ w .0 .taken)) in
     (omega arith, omega (arith, e, d .ends), rw (w .1) d))
-    (λ w. (omega arith, omega arith, rw (w .1) (grown-past g _ (part-no f (a .u) (a .v) (l .i) (sym (c .before .is-near .ensures) ∙ w .0 .left)))))
+    (λ w. (omega arith, omega arith, rw (w .1) (grown-past g _ (part-no f (a .u) (a .v) (l .i) (sym (c .before .is-next .ensures) ∙ w .0 .left)))))
     (c .if1 .came)
 
 same-length : tie.Need-same-length Inv-loop μ-loop
@@ -78,7 +78,7 @@ put-part-spec =
     cast-rows
     mul-rows
     slice-write-rows
-    is-near-requires
+    is-next-requires
     add-at
     add-i
     loop-less

@@ -1,9 +1,9 @@
 use borrow.Author.Tests.{eq-eqb, ne-eqb}
-use Rattle.neighbours.specs.Marks.{hit}
+use Rattle.matrix.specs.Matrix.{isJoined}
 use native.Mathlib.Omega.{arith}
 use borrow.Author.Needs.{needs}
-use Rattle.neighbours.proofs.is_near.Statement.{statement}
-use Rattle.neighbours.proofs.is_near.Tie as tie
+use Rattle.matrix.proofs.is_next.Statement.{statement}
+use Rattle.matrix.proofs.is_next.Tie as tie
 
 returns : tie.Need-returns
 returns c = rw (eq-eqb (c .before .args .u) (c .before .args .v) (omega (arith, c .if1 .taken)))
@@ -18,8 +18,8 @@ element-copy-out-result : tie.Need-element-copy-out-result
 element-copy-out-result c = search needs
 
 returns-2 : tie.Need-returns-2
-unfolding hit
+unfolding isJoined
 returns-2 c = rw (ne-eqb (c .before .before .args .u) (c .before .before .args .v) (λ e. omega (arith, e, c .before .if1 .left)))
 
-pub is-near-spec : {M : Type 1} → statement M
-is-near-spec = tie.close (tie.spec returns mul-result add-result element-copy-out-result returns-2)
+pub is-next-spec : {M : Type 1} → statement M
+is-next-spec = tie.close (tie.spec returns mul-result add-result element-copy-out-result returns-2)

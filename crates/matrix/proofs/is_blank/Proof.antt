@@ -4,10 +4,10 @@ use Prim.Native.Nat.{ℕ, _+_, _*_, _-_, _≤_, _<_}
 use native.Mathlib.Omega.{arith}
 use borrow.Author.Needs.{needs}
 use borrow.Author.Tests.{eqb-true}
-use Rattle.neighbours.specs.Marks.{Blank}
-use Rattle.neighbours.proofs.Marking.{blank-none, blank-more}
-use Rattle.neighbours.proofs.is_blank.Statement.{statement}
-use Rattle.neighbours.proofs.is_blank.Tie as tie
+use Rattle.matrix.specs.Matrix.{Blank}
+use Rattle.matrix.proofs.Joining.{blank-none, blank-more}
+use Rattle.matrix.proofs.is_blank.Statement.{statement}
+use Rattle.matrix.proofs.is_blank.Tie as tie
 
 abbrev Inv-loop : tie.InvT-loop
 Inv-loop m u v from x₀ i₀ x i = (i ≤ 16) × (x ≡ 0 → Blank m u v i)
