@@ -20,11 +20,6 @@ use Rattle.records.specs.declared.Mark.{Mark}
 use Rattle.records.specs.Marks.{letters, markOf}
 use Rattle.records.specs.Records.{cellMarked, Stepped, Came}
 
--- below kind 8 the search order is the letters' own
-pub own-order : (m : Mark) (b : Bool) → take (cond b prism pyramid .corners) (letters m) ≡ at (letters m) (cond b prism pyramid .order)
-own-order m true = refl
-own-order m false = refl
-
 pub agree-take : (k : ℕ) (s t : List ℕ) → take k s ≡ t → Agree k s t
 agree-take k s t e j h = sym (getD-take k s j 0 h) ∙ ap (λ l. getD l j 0) e
 

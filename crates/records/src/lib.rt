@@ -4,12 +4,14 @@ use glance::sees;
 use neighbours::put;
 use search::Found;
 use search::next;
+use templates::letters;
+use templates::ordered;
 use verdict::no_tets;
 ghost use mathlib.Core.Path.{_≡_};
 ghost use mathlib.Core.Bool.{true};
 ghost use mathlib.Core.List.{_∷_, _++_};
 ghost use Prim.Native.Nat.{_+_, _*_, _/_, _≤_};
-ghost use lib.ListN.{length, take};
+ghost use lib.ListN.{length};
 ghost use Rattle.base.specs.Lists.{pad};
 ghost use Rattle.base.specs.Laid.{Laid};
 ghost use Rattle.space.specs.Arrays.{meshOf};
@@ -59,56 +61,22 @@ pub enum Answer {
 
 // ---- marks and tuples
 
-// The numbers of a mark in the search order of a kind.
-fn ordered(kind: u16, m: Mark) -> [u16; 8]
-    ensures { λ r. ⌜ take (templateOf kind .corners) r ≡ at (letters m) (templateOf kind .order) ⌝ }
-{
-    if kind == 8 {
-        return [m.a, m.b, m.d, m.e, m.c, m.f, m.h, m.g];
-    }
-    [m.a, m.b, m.c, m.d, m.e, m.f, m.g, m.h]
-}
-
 // The mark of the cell that a tuple in search order makes.
 fn mark_at(kind: u16, t: [u16; 8]) -> Mark
+    requires { ⌜ templateOf kind .kind ≡ kind ⌝ }
     ensures { λ r. ⌜ markOf r ≡ templateOf kind .kind ∷ pad 8 0 (at t (templateOf kind .places)) ⌝ }
 {
-    if kind == 8 {
-        return Mark {
-            kind: 8,
-            a: t[0],
-            b: t[1],
-            c: t[4],
-            d: t[2],
-            e: t[3],
-            f: t[5],
-            g: t[7],
-            h: t[6],
-        };
-    }
-    if kind == 6 {
-        return Mark {
-            kind: 6,
-            a: t[0],
-            b: t[1],
-            c: t[2],
-            d: t[3],
-            e: t[4],
-            f: t[5],
-            g: 0,
-            h: 0,
-        };
-    }
+    let c = letters(kind, t);
     Mark {
-        kind: 5,
-        a: t[0],
-        b: t[1],
-        c: t[2],
-        d: t[3],
-        e: t[4],
-        f: 0,
-        g: 0,
-        h: 0,
+        kind,
+        a: c[0],
+        b: c[1],
+        c: c[2],
+        d: c[3],
+        e: c[4],
+        f: c[5],
+        g: c[6],
+        h: c[7],
     }
 }
 
@@ -161,7 +129,8 @@ fn search_kind(
         };
     }
     if k == kind {
-        let from = ordered(kind, mark);
+        let m = mark;
+        let from = ordered(kind, [m.a, m.b, m.c, m.d, m.e, m.f, m.g, m.h]);
         return next(
             tables,
             coords,

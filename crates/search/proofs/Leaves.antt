@@ -1,4 +1,4 @@
--- The test of a whole tuple: least form level by level, and the tuple in letter order.
+-- The test of a whole tuple: least form level by level.
 -- Assumes nothing.
 use Prim.Native.Nat.{ℕ, _+_, _≤_}
 use mathlib.Core.Path.{_≡_, refl, sym, _∙_}
@@ -25,12 +25,3 @@ least-is k s = go (eqb k 8) (eqb k 6)
     go true b = simp and-assoc
     go false true = simp and-assoc
     go false false = simp and-assoc
-
--- a kind but the first has its corners in search order
-pub letters-same : (k : ℕ) (s : List ℕ) → eqb k 8 ≡ false → 8 ≤ length s → take (templateOf k .corners) s ≡ at s (templateOf k .places)
-letters-same k s e h = go (eqb k 8) (eqb k 6) e
-  where
-    go : (a b : Bool) → a ≡ false → take (cond a hexahedron (cond b prism pyramid) .corners) s ≡ at s (cond a hexahedron (cond b prism pyramid) .places)
-    go true b q = cc
-    go false true q = take-front 6 s (omega arith)
-    go false false q = take-front 5 s (omega arith)

@@ -19,6 +19,8 @@ use levels::tries;
 use neighbours::Row;
 use neighbours::row_of;
 use space::Vertex;
+use templates::corners_of;
+use templates::letters;
 use verdict::Verdict;
 use verdict::is_cell;
 use verdict::no;
@@ -29,7 +31,7 @@ ghost use mathlib.Core.Bool.{true, false, _&&_};
 ghost use mathlib.Core.List.{List, []};
 ghost use Prim.Native.Nat.{ℕ, _+_, _/_, _<_, _≤_};
 ghost use lib.Dec.{eqb, ltb};
-ghost use lib.ListN.{length, getD, set, take};
+ghost use lib.ListN.{length, getD, set};
 ghost use Rattle.base.specs.Lists.{all, upTo};
 ghost use Rattle.space.specs.Arrays.{meshOf, Close};
 ghost use Rattle.templates.specs.Tables.{templateOf, at};
@@ -62,15 +64,6 @@ fn wide(x: u16) -> usize
     ensures { λ r. ⌜ (r ≡ x) × (r < 65536) ⌝ }
 {
     x as usize
-}
-
-fn corners_of(kind: u16) -> usize
-    ensures { λ r. ⌜ (r ≡ templateOf kind .corners) × ((5 ≤ r) × (r ≤ 8)) ⌝ }
-{
-    if kind == 8 {
-        return 8;
-    }
-    if kind == 6 { 6 } else { 5 }
 }
 
 // Where the rows of a kind begin in the tables of the levels.
@@ -611,16 +604,6 @@ fn is_least(tables: &[u8], kind: u16, s: [u16; 8]) -> bool
     ensures { λ r. ⌜ r ≡ isLeast (templateOf kind) (at s (templateOf kind .places)) ⌝ }
 {
     all_above(tables, &s, corners_of(kind), base_of(kind))
-}
-
-// The tuple in letter order.
-fn letters(kind: u16, s: [u16; 8]) -> [u16; 8]
-    ensures { λ r. ⌜ take (templateOf kind .corners) r ≡ at s (templateOf kind .places) ⌝ }
-{
-    if kind == 8 {
-        return [s[0], s[1], s[4], s[2], s[3], s[5], s[7], s[6]];
-    }
-    s
 }
 
 // The tuple is a cell in least form, and the tetrahedra of that cell.

@@ -2,3 +2,4 @@ pub mod Tests
 pub mod Last
 pub mod Turns
 pub mod OneLeast
+pub mod Fronts

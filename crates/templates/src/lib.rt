@@ -5,12 +5,16 @@ ghost use mathlib.Core.List.{[], map};
 ghost use Prim.Native.Nat.{_/_, _*_, _≤_, _<_};
 ghost use lib.ListN.{length, getD, take};
 ghost use Rattle.base.specs.Lists.{keep, upTo, isIn, distinct, lastOr};
-ghost use Rattle.templates.specs.Tables.{hexahedron, prism, pyramid, at};
+ghost use Rattle.templates.specs.Tables.{hexahedron, prism, pyramid, templateOf, at};
 ghost use Rattle.templates.specs.Flat.{rowOf, rowsOf, pairAt, pairs};
-ghost use Rattle.templates.specs.Least.{rises, risesAt, eight, formOf, formBy, leastForm};
+ghost use Rattle.templates.specs.Least.{rises, risesAt, isLeast, eight, formOf, formBy, leastForm};
 
+mod order;
 mod tables;
 
+pub use order::corners_of;
+pub use order::letters;
+pub use order::ordered;
 pub use tables::HEX_EDGES;
 pub use tables::HEX_INSIDE;
 pub use tables::HEX_LESS;
@@ -198,6 +202,20 @@ fn least_of(kind: u16, corners: &[u16]) -> Least
         return least_pyramid(&corners[..5]);
     }
     Least::Refused
+}
+
+// The first of eight numbers, as many as the kind has corners, are a tuple in least form.
+pub fn is_least(kind: u16, corners: &[u16]) -> bool
+    requires { ⌜ 8 ≤ length (now corners) ⌝ }
+    ensures { λ r. ⌜ r ≡ isLeast (templateOf kind) (take (templateOf kind .corners) (now (corners .entry))) ⌝ }
+{
+    if kind == 8 {
+        return all_rise(&corners[..8], &HEX_LESS);
+    }
+    if kind == 6 {
+        return all_rise(&corners[..6], &PRISM_LESS);
+    }
+    all_rise(&corners[..5], &PYRAMID_LESS)
 }
 
 // The least form of a tuple of a kind, or refusal 13. Numbers past the kind's corners do not count.

@@ -1,9 +1,14 @@
 -- `records::mark_at` meets its contract. Assumes nothing.
-use mathlib.Core.Path.{refl}
-use borrow.Author.Tests.{eq-eqb, ne-eqb}
+use mathlib.Core.Path.{_≡_, _∙_, ap}
+use mathlib.Core.List.{_∷_}
+use lib.ListN.{length}
+use Rattle.templates.proofs.Fronts.{eight-all}
 use borrow.Author.Needs.{needs}
 use Rattle.records.proofs.mark_at.Statement.{statement}
 use Rattle.records.proofs.mark_at.Tie as tie
+
+letters-requires : tie.Need-letters-requires
+letters-requires c κs = search needs
 
 array-read-t7 : tie.Need-array-read-t7
 array-read-t7 c = search needs
@@ -30,51 +35,16 @@ array-read-t28 : tie.Need-array-read-t28
 array-read-t28 c = search needs
 
 returns : tie.Need-returns
-returns c = rw (eq-eqb _ _ (c .if1 .taken)) refl
-
-array-read-t31 : tie.Need-array-read-t31
-array-read-t31 c = search needs
-
-array-read-t34 : tie.Need-array-read-t34
-array-read-t34 c = search needs
-
-array-read-t37 : tie.Need-array-read-t37
-array-read-t37 c = search needs
-
-array-read-t40 : tie.Need-array-read-t40
-array-read-t40 c = search needs
-
-array-read-t43 : tie.Need-array-read-t43
-array-read-t43 c = search needs
-
-array-read-t46 : tie.Need-array-read-t46
-array-read-t46 c = search needs
-
-returns-2 : tie.Need-returns-2
-returns-2 c = rw (ne-eqb _ _ (c .before .if1 .left), eq-eqb _ _ (c .if2 .taken)) refl
-
-array-read-t49 : tie.Need-array-read-t49
-array-read-t49 c = search needs
-
-array-read-t52 : tie.Need-array-read-t52
-array-read-t52 c = search needs
-
-array-read-t55 : tie.Need-array-read-t55
-array-read-t55 c = search needs
-
-array-read-t58 : tie.Need-array-read-t58
-array-read-t58 c = search needs
-
-array-read-t61 : tie.Need-array-read-t61
-array-read-t61 c = search needs
-
-returns-3 : tie.Need-returns-3
-returns-3 c = rw (ne-eqb _ _ (c .before .if1 .left), ne-eqb _ _ (c .if2 .left)) refl
+returns c =
+    let l = c .letters in
+    let e : length (l .result) ≡ 8 = search needs in
+    rw (c .before .pre) (ap (λ xs. c .before .args .kind ∷ xs) (eight-all (l .result) e ∙ l .ensures))
 
 pub mark-at-spec : {M : Type 1} → statement M
 mark-at-spec =
     tie.close
     (tie.spec
+    letters-requires
     array-read-t7
     array-read-t10
     array-read-t13
@@ -83,17 +53,4 @@ mark-at-spec =
     array-read-t22
     array-read-t25
     array-read-t28
-    returns
-    array-read-t31
-    array-read-t34
-    array-read-t37
-    array-read-t40
-    array-read-t43
-    array-read-t46
-    returns-2
-    array-read-t49
-    array-read-t52
-    array-read-t55
-    array-read-t58
-    array-read-t61
-    returns-3)
+    returns)

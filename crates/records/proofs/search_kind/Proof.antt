@@ -1,9 +1,12 @@
 -- `records::search_kind` meets its contract. Assumes nothing.
-use mathlib.Core.Path.{sym}
+use mathlib.Core.Path.{sym, _∙_, ap}
 use mathlib.Core.Bool.{true≢false}
 use native.Mathlib.Omega.{arith}
+use lib.ListN.{take}
 use Rattle.templates.specs.Tables.{templateOf}
+use Rattle.templates.proofs.Fronts.{ordered-front}
 use Rattle.rule.specs.Rule.{whole}
+use Rattle.records.specs.Marks.{letters}
 use Rattle.records.proofs.Marks.{searched-past, searched-within}
 use borrow.Author.Needs.{needs}
 use Rattle.records.proofs.search_kind.Statement.{statement}
@@ -24,7 +27,10 @@ next-requires : tie.Need-next-requires
 next-requires c κs = search needs
 
 returns-2 : tie.Need-returns-2
-returns-2 c = (searched-within _ _ (c .before .before .before .before .before .before .before .before .before .before .before .pre .1 .1) (c .before .before .if2 .taken) (c .before .ordered .ensures) (c .next .ensures .0), c .next .ensures .1)
+returns-2 c =
+    let s = c .before .before .before .before .before .before .before .before .before .before .before in
+    let k = s .args .kind in
+    (searched-within _ _ (s .pre .1 .1) (c .before .before .if2 .taken) (ap (take (templateOf k .corners)) (c .before .ordered .ensures) ∙ ordered-front k (letters (s .args .mark))) (c .next .ensures .0), c .next .ensures .1)
 
 next-requires-2 : tie.Need-next-requires-2
 next-requires-2 c κs = search needs

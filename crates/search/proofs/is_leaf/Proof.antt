@@ -1,9 +1,11 @@
 -- `search::is_leaf` meets its contract. Assumes nothing.
 use mathlib.Core.Path.{sym, _∙_, ap}
 use mathlib.Core.Bool.{true≢false}
+use lib.ListN.{take}
 use Rattle.base.proofs.Bools.{and-fails, and-passes}
 use Rattle.space.specs.Arrays.{meshOf}
 use Rattle.templates.specs.Tables.{templateOf}
+use Rattle.templates.proofs.Fronts.{letters-front}
 use Rattle.cells.specs.Cells.{isCell, numbersOf}
 use Rattle.verdict.proofs.Numbers.{found-as}
 use Rattle.rule.specs.Rule.{isLeaf, cellAt}
@@ -33,7 +35,7 @@ returns-2 c =
     let a = c .before .before .before .before .before .before .before .before .before .before .args in
     let m = meshOf (a .coords .now) (a .labels .now) (a .parts .now) in
     let t = templateOf (a .kind) in
-    let l = c .before .before .letters .ensures in (
+    let l = ap (take (t .corners)) (c .before .before .letters .ensures) ∙ letters-front (a .kind) (a .s) in (
       and-passes (c .before .before .before .before .is-least .ensures) (c .before .before .before .if1 .left) (c .is-cell .ensures .is ∙ ap (isCell m t) l),
       λ y. found-as (ap (numbersOf m t) l) (c .is-cell .ensures .tets y),
     )

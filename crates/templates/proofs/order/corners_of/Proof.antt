@@ -1,8 +1,8 @@
--- `search::corners_of` meets its contract. Assumes nothing.
+-- `templates::order::corners_of` meets its contract. Assumes nothing.
 use native.Mathlib.Omega.{arith}
 use borrow.Author.Tests.{eq-eqb, ne-eqb}
-use Rattle.search.proofs.corners_of.Statement.{statement}
-use Rattle.search.proofs.corners_of.Tie as tie
+use Rattle.templates.proofs.order.corners_of.Statement.{statement}
+use Rattle.templates.proofs.order.corners_of.Tie as tie
 
 returns : tie.Need-returns
 returns c = (rw (eq-eqb _ 8 (c .if1 .taken)), (omega arith, omega arith))
