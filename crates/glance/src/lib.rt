@@ -12,7 +12,7 @@ ghost use Prim.Native.Nat.{_/_, _<_, _≤_};
 ghost use lib.ListN.{length};
 ghost use Rattle.space.specs.Arrays.{meshOf};
 ghost use Rattle.around.specs.Build.{Within};
-ghost use Rattle.verdict.specs.Judged.{Arrays};
+ghost use Rattle.around.specs.Arrays.{Arrays};
 ghost use Rattle.levels.specs.Levels.{levels};
 ghost use Rattle.glance.specs.Seen.{Seen};
 

@@ -37,7 +37,7 @@ ghost use Rattle.space.specs.Arrays.{meshOf, Close};
 ghost use Rattle.templates.specs.Tables.{templateOf, at};
 ghost use Rattle.templates.specs.Least.{isLeast};
 ghost use Rattle.filling.specs.Found.{Found as Numbered};
-ghost use Rattle.verdict.specs.Judged.{Arrays};
+ghost use Rattle.around.specs.Arrays.{Arrays};
 ghost use Rattle.marks.specs.Marks.{places};
 ghost use Rattle.neighbours.specs.Reading.{Tabled, entriesOf};
 ghost use Rattle.portions.specs.Tuples.{Skips, LeastAfter};

@@ -1,25 +1,16 @@
--- What is known of the arrays of an accepted mesh, the first failing of conditions 5 and 6, and what a verdict tells.
+-- The first failing of conditions 5 and 6, and what a verdict tells.
 -- Assumes nothing.
-use Prim.Native.Nat.{ℕ, _/_}
+use Prim.Native.Nat.{ℕ}
 use mathlib.Core.Path.{_≡_}
 use mathlib.Core.Bool.{Bool, true, cond, _&&_}
 use mathlib.Core.List.{List, []}
-use lib.IntN.{ℤ}
-use lib.ListN.{length}
 use Rattle.space.specs.Mesh.{Mesh}
-use Rattle.space.specs.Arrays.{meshOf, Close}
-use Rattle.around.specs.Index.{Indexed}
+use Rattle.space.specs.Arrays.{meshOf}
 use Rattle.templates.specs.Tables.{Template}
 use Rattle.cells.specs.Cells.{isTuple, isSound, isFilledBy, isFilled, isOnePart, numbersOf}
 use Rattle.cells.specs.Rows.{threes, tabled, quadsOf}
 use Rattle.filling.specs.Found.{Found}
 use Rattle.verdict.specs.declared.Verdict.{Verdict}
-
--- coordinates in bounds, a part a tetrahedron, and the index of the labels
-pub record Arrays (zs : List ℤ) (ls ps : List ℕ) (n : ℕ) (offsets entries : List ℕ) : Type 0 where
-  pub close : Close zs
-  pub parts : length ps ≡ length ls / 4
-  pub indexed : Indexed ls n offsets entries
 
 -- the first of conditions 5 and 6 that fails, 0 where neither does
 abbrev pub lastOf : Bool → Bool → ℕ

@@ -77,7 +77,9 @@ loop-again c =
     descend w (c .before .before .before .loop .inv) (c .before .before .seek .ensures (z .args .parts .now)) (omega arith) (omega (arith, c .before .before .before .before .before .before .corners-of .ensures .0))
 
 is-leaf-requires : tie.Need-is-leaf-requires Inv-loop μ-loop
-is-leaf-requires c κs = let z = c .before .before .before .before .before .before .before .before .before .before .before .before .before .before in (z .pre .0, record { close = z .pre .1 .0 .close; parts = z .pre .1 .1; indexed = z .pre .1 .0 .indexed })
+is-leaf-requires c κs = let z = c .before .before .before .before .before .before .before .before .before .before .before .before .before .before in
+    let h = z .pre .1 .0 in
+    (z .pre .0, record { close = h .close; counted = h .counted; few = h .few; indexed = h .indexed; parted = z .pre .1 .1 })
 
 returns : tie.Need-returns Inv-loop μ-loop
 returns c =
