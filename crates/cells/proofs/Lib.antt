@@ -1,0 +1,2 @@
+pub mod InArrays
+pub mod Conditions

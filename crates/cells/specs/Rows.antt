@@ -1,12 +1,17 @@
--- The templates' tables laid flat: edges in twos, triangles in threes, quadrilaterals and corner triples in fours.
+-- What the conditions look at as the code has it: tables laid flat, triangles in threes, quadrilaterals and corner triples in fours; points and
+-- tetrahedra in the mesh's arrays.
 -- Assumes nothing.
 use Prim.Native.Nat.{ℕ, _+_, _*_, _/_}
+use mathlib.Core.Bool.{Bool}
 use mathlib.Core.List.{List, [], _∷_, map}
+use lib.IntN.{ℤ}
 use lib.ListN.{length, getD}
-use Rattle.base.specs.Lists.{upTo}
-use Rattle.space.specs.Arrays.{row4}
-use Rattle.templates.specs.Tables.{Template}
-use Rattle.templates.specs.Flat.{pairs}
+use Rattle.base.specs.Lists.{any, keep, upTo}
+use Rattle.space.specs.declared.Point.{Point}
+use Rattle.space.specs.Arrays.{pointAt, row4}
+use Rattle.around.specs.Index.{hasAll}
+use Rattle.templates.specs.Tables.{at}
+use Rattle.cells.specs.Cells.{isOwn}
 
 -- row i of a table of threes
 abbrev pub row3 : List ℕ → ℕ → List ℕ
@@ -19,23 +24,21 @@ threes xs = map (row3 xs) (upTo (length xs / 3))
 abbrev pub fours : List ℕ → List (List ℕ)
 fours xs = map (row4 xs) (upTo (length xs / 4))
 
--- the template that these tables say: its corners, edges, triangles, quadrilaterals and corner triples, all that the conditions look at
-abbrev pub tabled : ℕ → List ℕ → List ℕ → List ℕ → List ℕ → Template
-tabled k es ts qs cs = record {
-  kind = 0;
-  corners = k;
-  edges = pairs es;
-  triangles = threes ts;
-  quads = fours qs;
-  triples = fours cs;
-  order = [];
-  places = [];
-  search = [];
-  less = [];
-  turns = [];
-  mirror = [];
-}
+-- the points of these coordinates
+abbrev pub pointsOf : List ℤ → List Point
+pointsOf zs = map (pointAt zs) (upTo (length zs / 3))
 
--- with its quadrilaterals alone, all that says which tetrahedra a cell has
-abbrev pub quadsOf : List ℕ → Template
-quadsOf qs = tabled 0 [] [] qs []
+-- some tetrahedron of these labels has all these vertices
+abbrev pub togetherIn : List ℕ → List ℕ → Bool
+togetherIn ls vs = any (hasAll ls vs) (upTo (length ls / 4))
+
+-- some tetrahedron has the corners ks of c
+abbrev pub facetIn : List ℕ → List ℕ → List ℕ → Bool
+facetIn ls c ks = togetherIn ls (at c ks)
+
+-- tetrahedron i is one of the cell on the corners c, where qs are its quadrilaterals; and the numbers of these, rising
+unfoldable pub owns : List ℕ → List (List ℕ) → List ℕ → ℕ → Bool
+owns ls qs c i = isOwn qs c (row4 ls i)
+
+unfoldable pub ownNumbers : List ℕ → List (List ℕ) → List ℕ → List ℕ
+ownNumbers ls qs c = keep (owns ls qs c) (upTo (length ls / 4))

@@ -1,19 +1,17 @@
 // When a tuple of corners is a cell of a mesh: conditions 1 to 4. A tuple is the vertices of its corners, in letter order; the template is
 // lent as flat tables of corners (a to h are 0 to 7).
 ghost use mathlib.Core.Path.{_≡_};
-ghost use mathlib.Core.List.{[], _∷_};
 ghost use Prim.Native.Nat.{_/_, _<_};
 ghost use lib.Dec.{ltb};
 ghost use lib.ListN.{length};
 ghost use Rattle.base.specs.Lists.{all};
 ghost use Rattle.space.specs.Box.{isAbove0};
-ghost use Rattle.space.specs.Mesh.{together};
-ghost use Rattle.space.specs.Arrays.{row4, meshOf, Close};
+ghost use Rattle.space.specs.Arrays.{row4, Close};
 ghost use Rattle.around.specs.Index.{Indexed};
 ghost use Rattle.templates.specs.Tables.{at};
-ghost use Rattle.templates.specs.Flat.{pairAt};
-ghost use Rattle.cells.specs.Cells.{boxAt, isTuple, hasEdges, isFacet, isSplit, hasFaces, isSound};
-ghost use Rattle.cells.specs.Rows.{row3, threes, fours, tabled, quadsOf};
+ghost use Rattle.templates.specs.Flat.{pairAt, pairs};
+ghost use Rattle.cells.specs.Cells.{areCorners, allJoined, splits, allFaces, boxOf, boxesAbove};
+ghost use Rattle.cells.specs.Rows.{row3, threes, fours, pointsOf, togetherIn, facetIn};
 use around::together2;
 use around::together3;
 use space::Vertex;
@@ -75,7 +73,7 @@ fn all_below(c: &[u16], n: usize) -> bool
 
 // 1: as many corners as asked, distinct vertices of the mesh.
 pub fn is_tuple(coords: &[i64], c: &[u16], corners: usize) -> bool
-    ensures { λ r. ⌜ r ≡ isTuple (meshOf (now (coords .entry)) [] []) (tabled corners [] [] [] []) (now (c .entry)) ⌝ }
+    ensures { λ r. ⌜ r ≡ areCorners (length (now (coords .entry)) / 3) corners (now (c .entry)) ⌝ }
 {
     if c.len() != corners {
         return false;
@@ -100,7 +98,7 @@ fn edge(
 ) -> bool
     requires { ⌜ Indexed (now labels) n (now offsets) (now entries) ⌝ }
     requires { ⌜ i < length (now rows) / 2 ⌝ }
-    ensures { λ r. ⌜ r ≡ together (meshOf [] (now (labels .entry)) []) (at (now (c .entry)) (pairAt (now (rows .entry)) i)) ⌝ }
+    ensures { λ r. ⌜ r ≡ togetherIn (now (labels .entry)) (at (now (c .entry)) (pairAt (now (rows .entry)) i)) ⌝ }
 {
     let e = corners2(c, rows, i);
     together2(labels, n, offsets, entries, Vertex(e[0]), Vertex(e[1]))
@@ -116,7 +114,7 @@ pub fn has_edges(
     edges: &[u8],
 ) -> bool
     requires { ⌜ Indexed (now labels) n (now offsets) (now entries) ⌝ }
-    ensures { λ r. ⌜ r ≡ hasEdges (meshOf [] (now (labels .entry)) []) (tabled 0 (now (edges .entry)) [] [] []) (now (c .entry)) ⌝ }
+    ensures { λ r. ⌜ r ≡ allJoined (togetherIn (now (labels .entry))) (now (c .entry)) (pairs (now (edges .entry))) ⌝ }
 {
     let k = edges.len() / 2;
     let mut i = 0;
@@ -143,7 +141,7 @@ fn facet(
 ) -> bool
     requires { ⌜ Indexed (now labels) n (now offsets) (now entries) ⌝ }
     requires { ⌜ i < length (now rows) / 3 ⌝ }
-    ensures { λ r. ⌜ r ≡ isFacet (meshOf [] (now (labels .entry)) []) (quadsOf []) (now (c .entry)) (row3 (now (rows .entry)) i) ⌝ }
+    ensures { λ r. ⌜ r ≡ facetIn (now (labels .entry)) (now (c .entry)) (row3 (now (rows .entry)) i) ⌝ }
 {
     let f = corners3(c, rows, i);
     together3(
@@ -166,7 +164,7 @@ fn all_facets(
     rows: &[u8],
 ) -> bool
     requires { ⌜ Indexed (now labels) n (now offsets) (now entries) ⌝ }
-    ensures { λ r. ⌜ r ≡ all (isFacet (meshOf [] (now (labels .entry)) []) (quadsOf []) (now (c .entry))) (threes (now (rows .entry))) ⌝ }
+    ensures { λ r. ⌜ r ≡ all (facetIn (now (labels .entry)) (now (c .entry))) (threes (now (rows .entry))) ⌝ }
 {
     let k = rows.len() / 3;
     let mut i = 0;
@@ -196,7 +194,7 @@ fn split(
 ) -> bool
     requires { ⌜ Indexed (now labels) n (now offsets) (now entries) ⌝ }
     requires { ⌜ i < length (now rows) / 4 ⌝ }
-    ensures { λ r. ⌜ r ≡ isSplit (meshOf [] (now (labels .entry)) []) (quadsOf []) (now (c .entry)) (row4 (now (rows .entry)) i) ⌝ }
+    ensures { λ r. ⌜ r ≡ splits (facetIn (now (labels .entry)) (now (c .entry))) (row4 (now (rows .entry)) i) ⌝ }
 {
     let q = corners4(c, rows, i);
     if all_facets(labels, n, offsets, entries, &q, &FIRST) {
@@ -214,7 +212,7 @@ fn all_split(
     rows: &[u8],
 ) -> bool
     requires { ⌜ Indexed (now labels) n (now offsets) (now entries) ⌝ }
-    ensures { λ r. ⌜ r ≡ all (isSplit (meshOf [] (now (labels .entry)) []) (quadsOf []) (now (c .entry))) (fours (now (rows .entry))) ⌝ }
+    ensures { λ r. ⌜ r ≡ all (splits (facetIn (now (labels .entry)) (now (c .entry)))) (fours (now (rows .entry))) ⌝ }
 {
     let k = rows.len() / 4;
     let mut i = 0;
@@ -238,7 +236,7 @@ pub fn has_faces(
     quads: &[u8],
 ) -> bool
     requires { ⌜ Indexed (now labels) n (now offsets) (now entries) ⌝ }
-    ensures { λ r. ⌜ r ≡ hasFaces (meshOf [] (now (labels .entry)) []) (tabled 0 [] (now (triangles .entry)) (now (quads .entry)) []) (now (c .entry)) ⌝ }
+    ensures { λ r. ⌜ r ≡ allFaces (facetIn (now (labels .entry)) (now (c .entry))) (threes (now (triangles .entry))) (fours (now (quads .entry))) ⌝ }
 {
     if !all_facets(labels, n, offsets, entries, c, triangles) {
         return false;
@@ -251,7 +249,7 @@ pub fn has_faces(
 // The box at row i of the corner triples is above 0.
 fn sound_at(coords: &[i64], c: &[u16], rows: &[u8], i: usize) -> bool
     requires { ⌜ (i < length (now rows) / 4) × Close (now coords) ⌝ }
-    ensures { λ r. ⌜ r ≡ isAbove0 (boxAt (meshOf (now (coords .entry)) [] []) (at (now (c .entry)) (row4 (now (rows .entry)) i))) ⌝ }
+    ensures { λ r. ⌜ r ≡ isAbove0 (boxOf (pointsOf (now (coords .entry))) (at (now (c .entry)) (row4 (now (rows .entry)) i))) ⌝ }
 {
     let k = corners4(c, rows, i);
     let p = point_at(coords, Vertex(k[0]));
@@ -264,7 +262,7 @@ fn sound_at(coords: &[i64], c: &[u16], rows: &[u8], i: usize) -> bool
 // 4: the box at every corner triple is above 0.
 pub fn is_sound(coords: &[i64], c: &[u16], triples: &[u8]) -> bool
     requires { ⌜ Close (now coords) ⌝ }
-    ensures { λ r. ⌜ r ≡ isSound (meshOf (now (coords .entry)) [] []) (tabled 0 [] [] [] (now (triples .entry))) (now (c .entry)) ⌝ }
+    ensures { λ r. ⌜ r ≡ boxesAbove (boxOf (pointsOf (now (coords .entry)))) (now (c .entry)) (fours (now (triples .entry))) ⌝ }
 {
     let k = triples.len() / 4;
     let mut i = 0;

@@ -1,28 +1,18 @@
 -- The numbers of a mesh's tetrahedra that pass a test, found one after the other. Assumes nothing.
 use mathlib.Core.Path.{_≡_, refl, _∙_, ap}
 use mathlib.Core.Bool.{Bool, true, false, cond}
-use mathlib.Core.List.{List, [], _∷_, _++_, map, append-assoc, append-nil}
-use Prim.Native.Nat.{ℕ, zero, suc, _+_, _-_, _≤_, _<_}
-use native.Mathlib.Numerals.{add-one}
+use mathlib.Core.List.{List, [], _∷_, _++_, append-assoc, append-nil}
+use Prim.Native.Nat.{ℕ, suc, _+_, _-_, _≤_, _<_}
 use native.Mathlib.Decide.{decLt}
 use native.Mathlib.Omega.{arith}
 use borrow.Author.Tests.{lt-ltb, le-ltb}
 use lib.Dec.{ltb}
 use lib.ListN.{length, take, set, length-append}
 use lib.Seq.{take-all, take-append-le, set-append-seam}
-use Rattle.base.specs.Lists.{keep, from, upTo, pad}
-use Rattle.space.specs.Mesh.{Mesh, Tetrahedron}
-use Rattle.templates.specs.Tables.{Template}
-use Rattle.cells.specs.Cells.{belongs, numbersFrom}
+use Rattle.base.specs.Lists.{keep, upTo, pad}
+use Rattle.base.proofs.Runs.{upTo-more}
 use Rattle.filling.specs.declared.Tets.{Tets}
 use Rattle.filling.specs.Found.{Found, pushed}
-
-from-last : (i k : ℕ) → from i (suc k) ≡ from i k ++ ((i + k) ∷ [])
-from-last i zero = ap (λ j. j ∷ []) (omega arith)
-from-last i (suc k) = ap (λ l. i ∷ l) (from-last (suc i) k ∙ ap (λ j. from (suc i) k ++ (j ∷ [])) (omega arith))
-
-up-last : (i : ℕ) → upTo (i + 1) ≡ upTo i ++ (i ∷ [])
-up-last i = rw (add-one i) (from-last 0 i ∙ ap (λ j. upTo i ++ (j ∷ [])) (omega arith))
 
 module _ (b : ℕ → Bool) where
   keep-last : (xs : List ℕ) (i : ℕ) → keep b (xs ++ (i ∷ [])) ≡ keep b xs ++ cond (b i) (i ∷ []) []
@@ -35,10 +25,10 @@ module _ (b : ℕ → Bool) where
       go false l s e = e
 
   pub keep-more : (i : ℕ) → b i ≡ true → keep b (upTo (i + 1)) ≡ keep b (upTo i) ++ (i ∷ [])
-  keep-more i t = ap (keep b) (up-last i) ∙ keep-last (upTo i) i ∙ rw t
+  keep-more i t = ap (keep b) (upTo-more i) ∙ keep-last (upTo i) i ∙ rw t
 
   pub keep-skip : (i : ℕ) → b i ≡ false → keep b (upTo (i + 1)) ≡ keep b (upTo i)
-  keep-skip i t = ap (keep b) (up-last i) ∙ keep-last (upTo i) i ∙ rw (t, append-nil)
+  keep-skip i t = ap (keep b) (upTo-more i) ∙ keep-last (upTo i) i ∙ rw (t, append-nil)
 
 -- one number more is found
 module _ {xs : List ℕ} {f : Tets} (h : Found xs f) (i : ℕ) where
@@ -52,12 +42,6 @@ module _ {xs : List ℕ} {f : Tets} (h : Found xs f) (i : ℕ) where
 
   pub found-more : Found (xs ++ (i ∷ [])) (pushed f i)
   found-more = record { count = rw (h .count, length-append xs (i ∷ [])); list = list-more (decLt (length xs) 25) }
-
-module _ (m : Mesh) (t : Template) (c : List ℕ) (f : ℕ → Tetrahedron) where
-  pub numbers-from : (k i : ℕ) → numbersFrom m t c i (map f (from i k)) ≡ keep (λ j. belongs m t c (f j)) (from i k)
-  unfolding numbersFrom keep
-  numbers-from zero i = refl
-  numbers-from (suc k) i = ap (λ r. cond (belongs m t c (f i)) (i ∷ r) r) (numbers-from k (suc i))
 
 -- the invariant of the loop that finds them
 pub record FoundUp (b : ℕ → Bool) (i : ℕ) (f : Tets) : Type 0 where

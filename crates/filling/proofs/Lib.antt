@@ -1,4 +1,2 @@
 pub mod Found
-pub mod Parts
-pub mod Sides
 pub mod Nearby

@@ -15,10 +15,10 @@ use Rattle.base.specs.Lists.{all, any, keep, from, upTo, isIn}
 use Rattle.base.proofs.Bools.{and-left, and-right}
 use Rattle.base.proofs.Lists.{fails, all-at, all-from, any-at}
 use Rattle.base.proofs.Members.{keep-has, map-has, from-has}
-use Rattle.space.specs.Arrays.{row4, tetAt, meshOf, around}
+use Rattle.base.proofs.Runs.{place-of, kept-rises}
+use Rattle.space.specs.Arrays.{row4, around}
 use Rattle.around.specs.Index.{Labelled}
-use Rattle.cells.specs.Cells.{belongs}
-use Rattle.cells.specs.Rows.{fours, quadsOf}
+use Rattle.cells.specs.Rows.{fours, owns}
 use Rattle.templates.specs.Tables.{at}
 use Rattle.templates.proofs.Tests.{any-from}
 use Rattle.filling.specs.declared.Tets.{Tets}
@@ -26,10 +26,6 @@ use Rattle.filling.specs.Next.{Hit, hasStamp, Stamped, Rising, Least, Pa
 use Rattle.filling.proofs.Found.{FoundUp, keep-skip}
 
 -- where an element stands
-pub place-of : (xs : List ℕ) {x : ℕ} → List·Memᴰ x xs → (p : ℕ) × (p < length xs) × (getD xs p 0 ≡ x)
-place-of (y ∷ ys) (List·Memᴰ·head q) = (0, omega arith, sym q)
-place-of (y ∷ ys) (List·Memᴰ·tail h) = let r = place-of ys h in (suc (r .0), omega (arith, r .1), r .2)
-
 pub place-in : (x : ℕ) (xs : List ℕ) → isIn x xs ≡ true → (p : ℕ) × (p < length xs) × (getD xs p 0 ≡ x)
 place-in x xs e =
     let m = any-at (eqb x) xs e in
@@ -60,40 +56,21 @@ module _ {c m : List ℕ} {k : ℕ} (a : Stamped c k m) where
   stamped-next = record { long = a .long ∙ sym (length-set m (getD c k 0 % 512) 1); each = λ i. each-next i (decLt i k) }
 
 -- a tetrahedron with a vertex that has none is not one of the cell's
-pub no-stamp : (ls qs c m : List ℕ) (j : ℕ) → Stamped c (length c) m → all (hasStamp m) (row4 ls j) ≡ false → belongs (meshOf [] ls []) (quadsOf qs) c (tetAt ls [] j) ≡ false
-unfolding belongs
+pub no-stamp : (ls qs c m : List ℕ) (j : ℕ) → Stamped c (length c) m → all (hasStamp m) (row4 ls j) ≡ false → owns ls (fours qs) c j ≡ false
+unfolding owns
 no-stamp ls qs c m j a e =
     let f : all (λ v. isIn v c) (row4 ls j) ≡ false = fails _ (all (hasStamp m) (row4 ls j)) (λ t. all-from (hasStamp m) (row4 ls j) (λ v h. let p = place-in v c (all-at (λ v. isIn v c) (row4 ls j) t h) in rw (p .2) at (a .each (p .0) (p .1)))) e in
     rw f
 
 -- ---- over a row
 
--- what is kept of rising numbers rises
-keep-above : (b : ℕ → Bool) (k i j : ℕ) → j < length (keep b (from i k)) → i ≤ getD (keep b (from i k)) j 0
-unfolding keep
-keep-above b zero i j h = absurd (omega arith)
-keep-above b (suc k) i j h = go (b i) j h (keep-above b k (suc i))
-  where
-    go : (u : Bool) (j : ℕ) → j < length (cond u (i ∷ keep b (from (suc i) k)) (keep b (from (suc i) k))) → ((j : ℕ) → j < length (keep b (from (suc i) k)) → suc i ≤ getD (keep b (from (suc i) k)) j 0) → i ≤ getD (cond u (i ∷ keep b (from (suc i) k)) (keep b (from (suc i) k))) j 0
-    go true zero h r = omega arith
-    go true (suc j) h r = omega (arith, r j (omega arith))
-    go false j h r = omega (arith, r j h)
-
-keep-rises : (b : ℕ → Bool) (k i p q : ℕ) → p ≤ q → q < length (keep b (from i k)) → getD (keep b (from i k)) p 0 ≤ getD (keep b (from i k)) q 0
-unfolding keep
-keep-rises b zero i p q l h = absurd (omega arith)
-keep-rises b (suc k) i p q l h = go (b i) p q l h (keep-above b k (suc i)) (keep-rises b k (suc i))
-  where
-    go : (u : Bool) (p q : ℕ) → p ≤ q → q < length (cond u (i ∷ keep b (from (suc i) k)) (keep b (from (suc i) k))) → ((j : ℕ) → j < length (keep b (from (suc i) k)) → suc i ≤ getD (keep b (from (suc i) k)) j 0) → ((p q : ℕ) → p ≤ q → q < length (keep b (from (suc i) k)) → getD (keep b (from (suc i) k)) p 0 ≤ getD (keep b (from (suc i) k)) q 0) → getD (cond u (i ∷ keep b (from (suc i) k)) (keep b (from (suc i) k))) p 0 ≤ getD (cond u (i ∷ keep b (from (suc i) k)) (keep b (from (suc i) k))) q 0
-    go true zero zero l h a r = omega arith
-    go true zero (suc q) l h a r = omega (arith, a q (omega arith))
-    go true (suc p) zero l h a r = absurd (omega arith)
-    go true (suc p) (suc q) l h a r = r p q (omega arith) (omega arith)
-    go false p q l h a r = r p q l h
-
 pub around-rises : (ls : List ℕ) (v : ℕ) → Rising (around ls v)
 unfolding around
-around-rises ls v = record { up = keep-rises (λ i. isIn v (row4 ls i)) (length ls / 4) 0 }
+around-rises ls v = record { up = λ i k l h. go i k l h (decLt i k) }
+  where
+    go : (i k : ℕ) → i ≤ k → k < length (around ls v) → Dec (i < k) → getD (around ls v) i 0 ≤ getD (around ls v) k 0
+    go i k l h (yes q) = omega (arith, kept-rises (λ i. isIn v (row4 ls i)) 0 (length ls / 4) i k q h)
+    go i k l h (no q) = let e : i ≡ k = omega arith in rw e (omega arith)
 
 -- none so far
 module _ {b : ℕ → Bool} {lo k : ℕ} {row : List ℕ} (a : Passed b lo row k) where
@@ -197,11 +174,11 @@ one-of false e = e
 
 module _ (ls qs c : List ℕ) where
   abbrev test : ℕ → Bool
-  test j = belongs (meshOf [] ls []) (quadsOf qs) c (tetAt ls [] j)
+  test j = owns ls (fours qs) c j
 
   -- those of a quadrilateral
   pub aside-quad : (i : ℕ) → i < length qs / 4 → Aside test ls (at c (row4 qs i))
-  unfolding belongs
+  unfolding owns
   aside-quad i h = record { apart = λ j g t. any-none (λ q. all (λ v. isIn v (at c q)) (row4 ls j)) (fours qs) (not-true _ (and-right (all (λ v. isIn v c) (row4 ls j)) _ t)) (map-has (row4 qs) (upTo (length qs / 4)) (from-has 0 (length qs / 4) i (omega arith) (omega arith))) _ refl }
 
   -- one number alone: a tetrahedron has four
@@ -219,7 +196,7 @@ module _ (ls qs c : List ℕ) where
 
   -- every tetrahedron of the cell has a corner of it that is not left out
   pub next-done : {out : List ℕ} {lo k r : ℕ} → Aside test ls out → Next test ls c lo (length ls / 4) k out r → length c ≤ k → NextOf test lo (length ls / 4) r
-  unfolding belongs
+  unfolding owns
   next-done {out} {lo} {k} {r} w a h =
       record {
         le = a .le;

@@ -1,25 +1,19 @@
-// Which tetrahedra a cell has, and whether they fill it and are of one part: conditions 5 and 6.
+// Which tetrahedra a cell has, found around its corners.
 ghost use mathlib.Core.Path.{_≡_};
-ghost use mathlib.Core.Bool.{true};
-ghost use mathlib.Core.List.{[], _∷_};
-ghost use Prim.Native.Nat.{_*_, _/_, _≤_, _<_};
-ghost use lib.Dec.{eqb};
+ghost use Prim.Native.Nat.{_/_, _≤_, _<_};
 ghost use lib.ListN.{length, getD, set, replicate};
 ghost use Rattle.base.specs.Lists.{all, any, isIn};
-ghost use Rattle.space.specs.Arrays.{row4, tetAt, meshOf, around};
+ghost use Rattle.space.specs.Arrays.{row4, around};
 ghost use Rattle.around.specs.Index.{Indexed};
 ghost use Rattle.around.specs.Build.{Within};
 ghost use Rattle.templates.specs.Tables.{at};
-ghost use Rattle.cells.specs.Cells.{noneOrTwo, isDiagonal, belongs, numbersOf};
-ghost use Rattle.cells.specs.Rows.{row3, threes, fours, quadsOf};
+ghost use Rattle.cells.specs.Rows.{fours, owns, ownNumbers};
 ghost use Rattle.filling.specs.Found.{Found, pushed};
 ghost use Rattle.filling.specs.Next.{Hit, hasStamp, Stamped, Rising, Least, Passed, leftOut, Aside, Visited, NextOf, Reached};
-ghost use Rattle.filling.specs.Filled.{sidesIn, markOf, Noted, Marks, low, Lettered, sidesBy, once, paired, covers, fills, onePart};
 use around::row_of;
 use cells::corners4;
 use space::Tet;
 use space::Vertex;
-use templates::corner;
 use templates::is_in;
 
 // How many tetrahedra a cell has, and the numbers of the first 25, rising; 65,535 where unused.
@@ -76,7 +70,7 @@ fn on_some_quad(labels: &[u16], e: Tet, c: &[u16], rows: &[u8]) -> bool
 // The tetrahedron is one of the cell's.
 pub fn belongs_to(labels: &[u16], e: Tet, c: &[u16], quads: &[u8]) -> bool
     requires { ⌜ e .0 < length (now labels) / 4 ⌝ }
-    ensures { λ r. ⌜ r ≡ belongs (meshOf [] (now (labels .entry)) []) (quadsOf (now (quads .entry))) (now (c .entry)) (tetAt (now (labels .entry)) [] (e .0)) ⌝ }
+    ensures { λ r. ⌜ r ≡ owns (now (labels .entry)) (fours (now (quads .entry))) (now (c .entry)) (e .0) ⌝ }
 {
     if !all_in(labels, e, c) {
         return false;
@@ -148,7 +142,7 @@ fn may_be_in(labels: &[u16], e: Tet, m: &[u8; 512]) -> bool
 // The tetrahedron is one of the cell's and not below lo. Most have a vertex without a stamp, which is seen soonest.
 fn is_hit(labels: &[u16], e: Tet, lo: usize, m: &[u8; 512], c: &[u16], quads: &[u8]) -> bool
     requires { ⌜ (e .0 < length (now labels) / 4) × Stamped (now c) (length (now c)) (now m) ⌝ }
-    ensures { λ r. ⌜ Hit (belongs (meshOf [] (now (labels .entry)) []) (quadsOf (now (quads .entry))) (now (c .entry)) (tetAt (now (labels .entry)) [] (e .0))) lo (e .0) r ⌝ }
+    ensures { λ r. ⌜ Hit (owns (now (labels .entry)) (fours (now (quads .entry))) (now (c .entry)) (e .0)) lo (e .0) r ⌝ }
 {
     let j = e.0 as usize;
     if j < lo {
@@ -178,8 +172,8 @@ fn least_in(
     quads: &[u8],
 ) -> Seen
     requires { ⌜ Within (length (now labels) / 4) (now row) × Rising (now row) ⌝ }
-    requires { ⌜ Stamped (now c) (length (now c)) (now m) × Passed (λ j. belongs (meshOf [] (now labels) []) (quadsOf (now quads)) (now c) (tetAt (now labels) [] j)) lo (now row) from ⌝ }
-    ensures { λ r. ⌜ Least (λ j. belongs (meshOf [] (now (labels .entry)) []) (quadsOf (now (quads .entry))) (now (c .entry)) (tetAt (now (labels .entry)) [] j)) lo hi (now (row .entry)) (length (now (row .entry))) (r .least) × Passed (λ j. belongs (meshOf [] (now (labels .entry)) []) (quadsOf (now (quads .entry))) (now (c .entry)) (tetAt (now (labels .entry)) [] j)) lo (now (row .entry)) (r .at) ⌝ }
+    requires { ⌜ Stamped (now c) (length (now c)) (now m) × Passed (owns (now labels) (fours (now quads)) (now c)) lo (now row) from ⌝ }
+    ensures { λ r. ⌜ Least (owns (now (labels .entry)) (fours (now (quads .entry))) (now (c .entry))) lo hi (now (row .entry)) (length (now (row .entry))) (r .least) × Passed (owns (now (labels .entry)) (fours (now (quads .entry))) (now (c .entry))) lo (now (row .entry)) (r .at) ⌝ }
 {
     let mut at = from;
     while at < row.len() {
@@ -225,7 +219,7 @@ fn crowd_at(
     i: usize,
 ) -> Crowd
     requires { ⌜ Indexed (now labels) n (now offsets) (now entries) × (i < length (now quads) / 4) ⌝ }
-    ensures { λ r. ⌜ Aside (λ j. belongs (meshOf [] (now (labels .entry)) []) (quadsOf (now (quads .entry))) (now (c .entry)) (tetAt (now (labels .entry)) [] j)) (now (labels .entry)) (leftOut r) ⌝ }
+    ensures { λ r. ⌜ Aside (owns (now (labels .entry)) (fours (now (quads .entry))) (now (c .entry))) (now (labels .entry)) (leftOut r) ⌝ }
 {
     let q = corners4(c, quads, i);
     let x = size_of(labels, n, offsets, entries, Vertex(q[0]));
@@ -251,7 +245,7 @@ fn crowd_of(
     quads: &[u8],
 ) -> Crowd
     requires { ⌜ Indexed (now labels) n (now offsets) (now entries) ⌝ }
-    ensures { λ r. ⌜ Aside (λ j. belongs (meshOf [] (now (labels .entry)) []) (quadsOf (now (quads .entry))) (now (c .entry)) (tetAt (now (labels .entry)) [] j)) (now (labels .entry)) (leftOut r) ⌝ }
+    ensures { λ r. ⌜ Aside (owns (now (labels .entry)) (fours (now (quads .entry))) (now (c .entry))) (now (labels .entry)) (leftOut r) ⌝ }
 {
     let mut w = Crowd {
         a: 65535,
@@ -305,8 +299,8 @@ fn visit(
     quads: &[u8],
 ) -> Seen
     requires { ⌜ Indexed (now labels) n (now offsets) (now entries) × Stamped (now c) (length (now c)) (now m) ⌝ }
-    requires { ⌜ Passed (λ j. belongs (meshOf [] (now labels) []) (quadsOf (now quads)) (now c) (tetAt (now labels) [] j)) lo (around (now labels) (v .0)) from ⌝ }
-    ensures { λ r. ⌜ Visited (λ j. belongs (meshOf [] (now (labels .entry)) []) (quadsOf (now (quads .entry))) (now (c .entry)) (tetAt (now (labels .entry)) [] j)) lo hi (leftOut w) (v .0) (around (now (labels .entry)) (v .0)) (r .least) × Passed (λ j. belongs (meshOf [] (now (labels .entry)) []) (quadsOf (now (quads .entry))) (now (c .entry)) (tetAt (now (labels .entry)) [] j)) lo (around (now (labels .entry)) (v .0)) (r .at) ⌝ }
+    requires { ⌜ Passed (owns (now labels) (fours (now quads)) (now c)) lo (around (now labels) (v .0)) from ⌝ }
+    ensures { λ r. ⌜ Visited (owns (now (labels .entry)) (fours (now (quads .entry))) (now (c .entry))) lo hi (leftOut w) (v .0) (around (now (labels .entry)) (v .0)) (r .least) × Passed (owns (now (labels .entry)) (fours (now (quads .entry))) (now (c .entry))) lo (around (now (labels .entry)) (v .0)) (r .at) ⌝ }
 {
     if is_crowded(w, v) {
         return Seen {
@@ -359,8 +353,8 @@ fn next(
     quads: &[u8],
 ) -> usize
     requires { ⌜ Indexed (now labels) n (now offsets) (now entries) × Stamped (now c) (length (now c)) (now m) ⌝ }
-    requires { ⌜ Aside (λ j. belongs (meshOf [] (now labels) []) (quadsOf (now quads)) (now c) (tetAt (now labels) [] j)) (now labels) (leftOut w) × Reached (λ j. belongs (meshOf [] (now labels) []) (quadsOf (now quads)) (now c) (tetAt (now labels) [] j)) (now labels) (now c) lo (now places) ⌝ }
-    ensures { λ r. ⌜ NextOf (λ j. belongs (meshOf [] (now (labels .entry)) []) (quadsOf (now (quads .entry))) (now (c .entry)) (tetAt (now (labels .entry)) [] j)) lo (length (now (labels .entry)) / 4) r × Reached (λ j. belongs (meshOf [] (now (labels .entry)) []) (quadsOf (now (quads .entry))) (now (c .entry)) (tetAt (now (labels .entry)) [] j)) (now (labels .entry)) (now (c .entry)) lo (now (places .exit)) ⌝ }
+    requires { ⌜ Aside (owns (now labels) (fours (now quads)) (now c)) (now labels) (leftOut w) × Reached (owns (now labels) (fours (now quads)) (now c)) (now labels) (now c) lo (now places) ⌝ }
+    ensures { λ r. ⌜ NextOf (owns (now (labels .entry)) (fours (now (quads .entry))) (now (c .entry))) lo (length (now (labels .entry)) / 4) r × Reached (owns (now (labels .entry)) (fours (now (quads .entry))) (now (c .entry))) (now (labels .entry)) (now (c .entry)) lo (now (places .exit)) ⌝ }
 {
     let mut least = labels.len() / 4;
     let mut k = 0;
@@ -398,7 +392,7 @@ pub fn find(
     quads: &[u8],
 ) -> Tets
     requires { ⌜ Indexed (now labels) n (now offsets) (now entries) ⌝ }
-    ensures { λ r. ⌜ Found (numbersOf (meshOf [] (now (labels .entry)) []) (quadsOf (now (quads .entry))) (now (c .entry))) r ⌝ }
+    ensures { λ r. ⌜ Found (ownNumbers (now (labels .entry)) (fours (now (quads .entry))) (now (c .entry))) r ⌝ }
 {
     let t = labels.len() / 4;
     let w = crowd_of(labels, n, offsets, entries, c, quads);
@@ -425,215 +419,4 @@ pub fn find(
         );
     }
     found
-}
-
-// ---- condition 5
-
-// Whether a tetrahedron has corner j of the cell, as 1 or 0; without a branch, which would cost more.
-fn mark(labels: &[u16], e: Tet, c: &[u16], j: u8) -> u8
-    requires { ⌜ e .0 < length (now labels) / 4 ⌝ }
-    ensures { λ r. ⌜ r ≡ markOf (now (labels .entry)) (now (c .entry)) (e .0) j ⌝ }
-{
-    let v = corner(c, j);
-    let at = 4 * (e.0 as usize);
-    let w = v == labels[at];
-    let x = v == labels[at + 1];
-    let y = v == labels[at + 2];
-    let z = v == labels[at + 3];
-    (w | (x | (y | z))) as u8
-}
-
-// Writes which corners of the cell each of the tetrahedra listed has, 8 entries to each: they are compared once, and then counted by these.
-fn note(labels: &[u16], list: &[u16], c: &[u16], has: &mut [u8])
-    requires { ⌜ Within (length (now labels) / 4) (now list) × (length (now has) ≡ 8 * length (now list)) ⌝ }
-    ensures { λ _. ⌜ Noted (now (labels .entry)) (now (list .entry)) (now (c .entry)) (now (has .exit)) ⌝ }
-{
-    let n = 8 * list.len();
-    let mut x = 0;
-    while x < n {
-        let i = list[x / 8];
-        has[x] = mark(labels, Tet(i), c, (x % 8) as u8);
-        x += 1;
-    }
-}
-
-// Of how many of the tetrahedra three corners are a facet. The product is 1 where all three are marked; a branch would cost more.
-fn sides_of(has: &[u8], x: u8, y: u8, z: u8) -> usize
-    requires { ⌜ Marks (now has) × ((x < 8) × ((y < 8) × (z < 8))) ⌝ }
-    ensures { λ r. ⌜ r ≡ sidesBy (now (has .entry)) (x ∷ y ∷ z ∷ []) ⌝ }
-{
-    let a = x as usize;
-    let b = y as usize;
-    let d = z as usize;
-    let n = has.len() / 8;
-    let mut found: usize = 0;
-    let mut k = 0;
-    while k < n {
-        let at = 8 * k;
-        found += (has[at + a] * has[at + b] * has[at + d]) as usize;
-        k += 1;
-    }
-    found
-}
-
-// The same of row i of a table of triples.
-fn sides_row(has: &[u8], rows: &[u8], i: usize) -> usize
-    requires { ⌜ (i < length (now rows) / 3) × (Marks (now has) × (low (now rows) ≡ true)) ⌝ }
-    ensures { λ r. ⌜ r ≡ sidesBy (now (has .entry)) (row3 (now (rows .entry)) i) ⌝ }
-{
-    let at = 3 * i;
-    sides_of(has, rows[at], rows[at + 1], rows[at + 2])
-}
-
-// The triples of the table are on the boundary: each is a facet of one.
-fn all_once(has: &[u8], rows: &[u8]) -> bool
-    requires { ⌜ Marks (now has) × (low (now rows) ≡ true) ⌝ }
-    ensures { λ r. ⌜ r ≡ all (once (sidesBy (now (has .entry)))) (threes (now (rows .entry))) ⌝ }
-{
-    let k = rows.len() / 3;
-    let mut i = 0;
-    while i < k {
-        if sides_row(has, rows, i) != 1 {
-            return false;
-        }
-        i += 1;
-    }
-    true
-}
-
-fn is_pair(k: usize) -> bool
-    ensures { λ r. ⌜ r ≡ noneOrTwo k ⌝ }
-{
-    if k == 0 {
-        return true;
-    }
-    k == 2
-}
-
-// The triples of the table are inside: each is a facet of none or of two.
-fn all_paired(has: &[u8], rows: &[u8]) -> bool
-    requires { ⌜ Marks (now has) × (low (now rows) ≡ true) ⌝ }
-    ensures { λ r. ⌜ r ≡ all (paired (sidesBy (now (has .entry)))) (threes (now (rows .entry))) ⌝ }
-{
-    let k = rows.len() / 3;
-    let mut i = 0;
-    while i < k {
-        if !is_pair(sides_row(has, rows, i)) {
-            return false;
-        }
-        i += 1;
-    }
-    true
-}
-
-// One diagonal's triangles count a and b, the other's d and e: the first is on the boundary, the second is not.
-fn is_diagonal(a: usize, b: usize, d: usize, e: usize) -> bool
-    ensures { λ r. ⌜ r ≡ isDiagonal a b d e ⌝ }
-{
-    if a != 1 {
-        return false;
-    }
-    if b != 1 {
-        return false;
-    }
-    if !is_pair(d) {
-        return false;
-    }
-    is_pair(e)
-}
-
-// Quadrilateral i is covered by the triangles of exactly one of its diagonals.
-fn covered(has: &[u8], quads: &[u8], i: usize) -> bool
-    requires { ⌜ (i < length (now quads) / 4) × (Marks (now has) × (low (now quads) ≡ true)) ⌝ }
-    ensures { λ r. ⌜ r ≡ covers (sidesBy (now (has .entry))) (row4 (now (quads .entry)) i) ⌝ }
-{
-    let at = 4 * i;
-    let a = quads[at];
-    let b = quads[at + 1];
-    let d = quads[at + 2];
-    let e = quads[at + 3];
-    let abd = sides_of(has, a, b, d);
-    let ade = sides_of(has, a, d, e);
-    let abe = sides_of(has, a, b, e);
-    let bde = sides_of(has, b, d, e);
-    if is_diagonal(abd, ade, abe, bde) {
-        return true;
-    }
-    is_diagonal(abe, bde, abd, ade)
-}
-
-fn all_covered(has: &[u8], quads: &[u8]) -> bool
-    requires { ⌜ Marks (now has) × (low (now quads) ≡ true) ⌝ }
-    ensures { λ r. ⌜ r ≡ all (covers (sidesBy (now (has .entry)))) (fours (now (quads .entry))) ⌝ }
-{
-    let k = quads.len() / 4;
-    let mut i = 0;
-    while i < k {
-        if !covered(has, quads, i) {
-            return false;
-        }
-        i += 1;
-    }
-    true
-}
-
-// 5, where the corners that the tetrahedra have are noted.
-fn is_filled_by(has: &[u8], triangles: &[u8], quads: &[u8], within: &[u8]) -> bool
-    requires { ⌜ Marks (now has) × Lettered (now triangles) (now quads) (now within) ⌝ }
-    ensures { λ r. ⌜ r ≡ fills (sidesBy (now (has .entry))) (threes (now (triangles .entry))) (fours (now (quads .entry))) (threes (now (within .entry))) ⌝ }
-{
-    if !all_once(has, triangles) {
-        return false;
-    }
-    if !all_covered(has, quads) {
-        return false;
-    }
-    all_paired(has, within)
-}
-
-// 5: the tetrahedra listed fill the cell; `within` are the triples on no face, and `has` is room for 8 entries a tetrahedron.
-pub fn is_filled(
-    labels: &[u16],
-    list: &[u16],
-    c: &[u16],
-    triangles: &[u8],
-    quads: &[u8],
-    within: &[u8],
-    has: &mut [u8],
-) -> bool
-    requires { ⌜ Within (length (now labels) / 4) (now list) × ((length (now has) ≡ 8 * length (now list)) × Lettered (now triangles) (now quads) (now within)) ⌝ }
-    ensures { λ r. ⌜ r ≡ fills (sidesIn (now (labels .entry)) (now (list .entry)) (now (c .entry))) (threes (now (triangles .entry))) (fours (now (quads .entry))) (threes (now (within .entry))) ⌝ }
-{
-    note(labels, list, c, has);
-    is_filled_by(has, triangles, quads, within)
-}
-
-// ---- condition 6
-
-// The tetrahedra listed are all of this part.
-fn all_of_part(parts: &[u16], list: &[u16], part: u16) -> bool
-    requires { ⌜ Within (length (now parts)) (now list) ⌝ }
-    ensures { λ r. ⌜ r ≡ all (λ i. eqb part (getD (now (parts .entry)) i 0)) (now (list .entry)) ⌝ }
-{
-    let mut k = 0;
-    while k < list.len() {
-        let i = list[k] as usize;
-        if part != parts[i] {
-            return false;
-        }
-        k += 1;
-    }
-    true
-}
-
-// 6: the tetrahedra listed have one part number.
-pub fn is_one_part(parts: &[u16], list: &[u16]) -> bool
-    requires { ⌜ Within (length (now parts)) (now list) ⌝ }
-    ensures { λ r. ⌜ r ≡ onePart (now (parts .entry)) (now (list .entry)) ⌝ }
-{
-    if list.len() == 0 {
-        return true;
-    }
-    let i = list[0] as usize;
-    all_of_part(parts, list, parts[i])
 }

@@ -2,16 +2,16 @@
 -- Assumes nothing.
 use Prim.Native.Nat.{ℕ}
 use mathlib.Core.Bool.{Bool, not, _&&_}
-use mathlib.Core.List.{List, []}
+use mathlib.Core.List.{List}
 use lib.Dec.{ltb}
 use lib.IntN.{ℤ}
 use lib.ListN.{getD}
 use Rattle.base.specs.Lists.{all, upTo, isIn}
-use Rattle.space.specs.Arrays.{meshOf}
-use Rattle.cells.specs.Cells.{isSound}
+use Rattle.cells.specs.Cells.{boxOf, boxesAbove}
+use Rattle.cells.specs.Rows.{pointsOf}
 use Rattle.marks.specs.Marks.{facesNoted}
 use Rattle.portions.specs.Tuples.{front}
-use Rattle.levels.specs.Levels.{lesser, levelOf}
+use Rattle.levels.specs.Levels.{lesser, levelTriangles, levelQuads, levelTriples}
 
 -- the vertex at place d is new, and above those that it must be above
 unfoldable pub comesAfter : ℕ → ℕ → List ℕ → Bool
@@ -19,4 +19,5 @@ comesAfter x d s = not (isIn (getD s d 0) (front d s)) && all (λ k. ltb (getD s
 
 -- and of the faces and the corner triples that it completes each passes its test, the faces by their marks; x is the row of the level's tables
 unfoldable pub fits : List ℤ → List ℕ → ℕ → ℕ → List ℕ → Bool
-fits zs ms x d s = comesAfter x d s && facesNoted ms (levelOf x) s && isSound (meshOf zs [] []) (levelOf x) s
+fits zs ms x d s =
+    comesAfter x d s && facesNoted ms s (levelTriangles x) (levelQuads x) && boxesAbove (boxOf (pointsOf zs)) s (levelTriples x)

@@ -6,8 +6,7 @@ use mathlib.Core.Bool.{cond}
 use mathlib.Core.List.{List, [], _∷_, _++_}
 use lib.Dec.{eqb}
 use lib.ListN.{length, getD, take, drop}
-use Rattle.templates.specs.Tables.{Template}
-use Rattle.cells.specs.Rows.{tabled}
+use Rattle.cells.specs.Rows.{threes, fours}
 
 -- where the rows of a kind begin
 abbrev pub base : ℕ → ℕ
@@ -73,9 +72,15 @@ levels =
 abbrev pub part : List ℕ → List ℕ → ℕ → List ℕ
 part rows starts x = take (getD starts (x + 1) 0 - getD starts x 0) (drop (getD starts x 0) rows)
 
--- the faces and the corner triples of row x, as a template
-abbrev pub levelOf : ℕ → Template
-levelOf x = tabled 0 [] (part levels trianglesAt x) (part levels quadsAt x) (part levels triplesAt x)
+-- the triangles, the quadrilaterals and the corner triples of row x
+abbrev pub levelTriangles : ℕ → List (List ℕ)
+levelTriangles x = threes (part levels trianglesAt x)
+
+abbrev pub levelQuads : ℕ → List (List ℕ)
+levelQuads x = fours (part levels quadsAt x)
+
+abbrev pub levelTriples : ℕ → List (List ℕ)
+levelTriples x = fours (part levels triplesAt x)
 
 -- a table's part for row x lies within it
 pub record Cut (rows starts : List ℕ) (x : ℕ) : Type 0 where

@@ -8,16 +8,15 @@ use rows::LEVELS;
 use space::Vertex;
 use templates::is_in;
 ghost use mathlib.Core.Path.{_≡_};
-ghost use mathlib.Core.List.{[]};
 ghost use Prim.Native.Nat.{_+_, _<_, _≤_};
 ghost use lib.Dec.{ltb};
 ghost use lib.ListN.{length, getD, set};
 ghost use Rattle.base.specs.Lists.{all, upTo};
-ghost use Rattle.space.specs.Arrays.{meshOf, Close};
-ghost use Rattle.cells.specs.Cells.{isSound};
-ghost use Rattle.cells.specs.Rows.{tabled};
+ghost use Rattle.space.specs.Arrays.{Close};
+ghost use Rattle.cells.specs.Cells.{boxOf, boxesAbove};
+ghost use Rattle.cells.specs.Rows.{threes, fours, pointsOf};
 ghost use Rattle.marks.specs.Marks.{places, facesNoted};
-ghost use Rattle.levels.specs.Levels.{lesser, joined, also, third, look, part, levelOf, levels, Cut};
+ghost use Rattle.levels.specs.Levels.{lesser, joined, also, third, look, part, levelTriangles, levelQuads, levelTriples, levels, Cut};
 ghost use Rattle.levels.specs.Fits.{comesAfter, fits};
 
 // Where the tables begin: of the rows of faces and corner triples they name the entries, which stand first.
@@ -127,7 +126,7 @@ fn comes_after(tables: &[u8], s: &[u16], x: usize, d: usize) -> bool
 // The boxes of a part of the corner triples are above 0.
 fn sound_part(coords: &[i64], s: &[u16], rows: &[u8], starts: &[u8], x: usize) -> bool
     requires { ⌜ Close (now coords) × Cut (now rows) (now starts) x ⌝ }
-    ensures { λ r. ⌜ r ≡ isSound (meshOf (now (coords .entry)) [] []) (tabled 0 [] [] [] (part (now (rows .entry)) (now (starts .entry)) x)) (now (s .entry)) ⌝ }
+    ensures { λ r. ⌜ r ≡ boxesAbove (boxOf (pointsOf (now (coords .entry)))) (now (s .entry)) (fours (part (now (rows .entry)) (now (starts .entry)) x)) ⌝ }
 {
     let from = entry_of(starts, x);
     let end = entry_of(starts, x + 1);
@@ -145,7 +144,7 @@ fn faces_part(
 ) -> bool
     requires { ⌜ length (now marks) ≡ places ⌝ }
     requires { ⌜ Cut (now rows) (now triangles) x × Cut (now rows) (now quads) x ⌝ }
-    ensures { λ r. ⌜ r ≡ facesNoted (now (marks .entry)) (tabled 0 [] (part (now (rows .entry)) (now (triangles .entry)) x) (part (now (rows .entry)) (now (quads .entry)) x) []) (now (s .entry)) ⌝ }
+    ensures { λ r. ⌜ r ≡ facesNoted (now (marks .entry)) (now (s .entry)) (threes (part (now (rows .entry)) (now (triangles .entry)) x)) (fours (part (now (rows .entry)) (now (quads .entry)) x)) ⌝ }
 {
     let from = entry_of(triangles, x);
     let end = entry_of(triangles, x + 1);
@@ -156,14 +155,14 @@ fn faces_part(
 
 fn sound_at(tables: &[u8], coords: &[i64], s: &[u16], x: usize) -> bool
     requires { ⌜ (now tables ≡ levels) × (Close (now coords) × (x < 19)) ⌝ }
-    ensures { λ r. ⌜ r ≡ isSound (meshOf (now (coords .entry)) [] []) (levelOf x) (now (s .entry)) ⌝ }
+    ensures { λ r. ⌜ r ≡ boxesAbove (boxOf (pointsOf (now (coords .entry)))) (now (s .entry)) (levelTriples x) ⌝ }
 {
     sound_part(coords, s, tables, &tables[TRIPLES_AT..LESSER], x)
 }
 
 fn faces_at(tables: &[u8], marks: &[u8], s: &[u16], x: usize) -> bool
     requires { ⌜ (now tables ≡ levels) × ((length (now marks) ≡ places) × (x < 19)) ⌝ }
-    ensures { λ r. ⌜ r ≡ facesNoted (now (marks .entry)) (levelOf x) (now (s .entry)) ⌝ }
+    ensures { λ r. ⌜ r ≡ facesNoted (now (marks .entry)) (now (s .entry)) (levelTriangles x) (levelQuads x) ⌝ }
 {
     faces_part(
         marks,

@@ -2,7 +2,7 @@
 -- Assumes nothing.
 use Prim.Native.Nat.{ℕ, _%_, _<_}
 use mathlib.Core.Path.{_≡_}
-use mathlib.Core.Bool.{Bool, true, not, _&&_, _||_}
+use mathlib.Core.Bool.{Bool, true, not, _||_}
 use mathlib.Core.List.{List, [], _∷_}
 use lib.Dec.{eqb}
 use lib.ListN.{length, getD}
@@ -10,7 +10,8 @@ use Rattle.base.specs.Lists.{all, isIn}
 use Rattle.space.specs.Mesh.{together}
 use Rattle.space.specs.Arrays.{row4, meshOf}
 use Rattle.space.specs.Spread.{spread}
-use Rattle.templates.specs.Tables.{Template, at}
+use Rattle.templates.specs.Tables.{at}
+use Rattle.cells.specs.Cells.{allFaces}
 
 -- how many places the table has
 abbrev pub places : ℕ
@@ -29,19 +30,23 @@ pub record Marked (ls ms : List ℕ) : Type 0 where
   pub size : length ms ≡ places
   pub facets : (u v w : ℕ) → together (meshOf [] ls []) (u ∷ v ∷ w ∷ []) ≡ true → noted ms u v w ≡ true
 
--- three vertices in a list, and both triangles of a diagonal of four
+-- three vertices in a list have their mark; the corners ks of c have it
 abbrev pub notedFacet : List ℕ → List ℕ → Bool
 notedFacet ms vs = noted ms (getD vs 0 0) (getD vs 1 0) (getD vs 2 0)
 
+abbrev pub notedAt : List ℕ → List ℕ → List ℕ → Bool
+notedAt ms c ks = notedFacet ms (at c ks)
+
+-- two triangles have theirs, and both of a diagonal of four vertices
+abbrev pub bothNoted : List ℕ → ℕ → ℕ → ℕ → ℕ → ℕ → ℕ → Bool
+bothNoted ms a b c d e f = all (notedFacet ms) ((a ∷ b ∷ c ∷ []) ∷ (d ∷ e ∷ f ∷ []) ∷ [])
+
 abbrev pub splitAt : List ℕ → ℕ → ℕ → ℕ → ℕ → Bool
-splitAt ms a b c d = (noted ms a b c && noted ms a c d) || (noted ms a b d && noted ms b c d)
+splitAt ms a b c d = bothNoted ms a b c a c d || bothNoted ms a b d b c d
 
-abbrev pub notedSplit : List ℕ → List ℕ → Bool
-notedSplit ms vs = splitAt ms (getD vs 0 0) (getD vs 1 0) (getD vs 2 0) (getD vs 3 0)
-
--- every face of a template can be one of the mesh, as far as the marks tell
-unfoldable pub facesNoted : List ℕ → Template → List ℕ → Bool
-facesNoted ms t c = all (λ f. notedFacet ms (at c f)) (t .triangles) && all (λ q. notedSplit ms (at c q)) (t .quads)
+-- condition 3 as far as the marks tell: every face of a tuple can be one of the mesh
+unfoldable pub facesNoted : List ℕ → List ℕ → List (List ℕ) → List (List ℕ) → Bool
+facesNoted ms c ts qs = allFaces (notedAt ms c) ts qs
 
 -- ── what the stores do ──
 

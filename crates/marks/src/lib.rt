@@ -4,15 +4,14 @@ use cells::corners4;
 use space::Vertex;
 use space::spread;
 ghost use mathlib.Core.Path.{_≡_};
-ghost use mathlib.Core.Bool.{_&&_};
 ghost use Prim.Native.Nat.{_/_, _<_};
 ghost use mathlib.Core.List.{[], _∷_};
 ghost use Rattle.base.specs.Lists.{all};
 ghost use lib.ListN.{length};
 ghost use Rattle.space.specs.Arrays.{row4};
-ghost use Rattle.templates.specs.Tables.{at};
-ghost use Rattle.cells.specs.Rows.{row3, threes, fours, tabled};
-ghost use Rattle.marks.specs.Marks.{places, key, noted, Marked, notedFacet, splitAt, notedSplit, facesNoted, Notes, OfPoint, OfSquare, OfTet};
+ghost use Rattle.cells.specs.Cells.{splits};
+ghost use Rattle.cells.specs.Rows.{row3, threes, fours};
+ghost use Rattle.marks.specs.Marks.{places, key, noted, Marked, notedAt, bothNoted, splitAt, facesNoted, Notes, OfPoint, OfSquare, OfTet};
 
 // The place of three vertices, whatever their order.
 fn key(u: Vertex, v: Vertex, w: Vertex) -> usize
@@ -113,7 +112,7 @@ fn both_noted(
     f: Vertex,
 ) -> bool
     requires { ⌜ length (now marks) ≡ places ⌝ }
-    ensures { λ r. ⌜ r ≡ (noted (now (marks .entry)) (a .0) (b .0) (c .0) && noted (now (marks .entry)) (d .0) (e .0) (f .0)) ⌝ }
+    ensures { λ r. ⌜ r ≡ bothNoted (now (marks .entry)) (a .0) (b .0) (c .0) (d .0) (e .0) (f .0) ⌝ }
 {
     if !is_noted(marks, a, b, c) {
         return false;
@@ -134,7 +133,7 @@ fn split_noted(marks: &[u8], a: Vertex, b: Vertex, c: Vertex, d: Vertex) -> bool
 
 fn triangle_noted(marks: &[u8], c: &[u16], rows: &[u8], i: usize) -> bool
     requires { ⌜ (length (now marks) ≡ places) × (i < length (now rows) / 3) ⌝ }
-    ensures { λ r. ⌜ r ≡ notedFacet (now (marks .entry)) (at (now (c .entry)) (row3 (now (rows .entry)) i)) ⌝ }
+    ensures { λ r. ⌜ r ≡ notedAt (now (marks .entry)) (now (c .entry)) (row3 (now (rows .entry)) i) ⌝ }
 {
     let f = corners3(c, rows, i);
     is_noted(marks, Vertex(f[0]), Vertex(f[1]), Vertex(f[2]))
@@ -142,7 +141,7 @@ fn triangle_noted(marks: &[u8], c: &[u16], rows: &[u8], i: usize) -> bool
 
 fn quad_noted(marks: &[u8], c: &[u16], rows: &[u8], i: usize) -> bool
     requires { ⌜ (length (now marks) ≡ places) × (i < length (now rows) / 4) ⌝ }
-    ensures { λ r. ⌜ r ≡ notedSplit (now (marks .entry)) (at (now (c .entry)) (row4 (now (rows .entry)) i)) ⌝ }
+    ensures { λ r. ⌜ r ≡ splits (notedAt (now (marks .entry)) (now (c .entry))) (row4 (now (rows .entry)) i) ⌝ }
 {
     let q = corners4(c, rows, i);
     split_noted(
@@ -156,7 +155,7 @@ fn quad_noted(marks: &[u8], c: &[u16], rows: &[u8], i: usize) -> bool
 
 fn triangles_noted(marks: &[u8], c: &[u16], rows: &[u8]) -> bool
     requires { ⌜ length (now marks) ≡ places ⌝ }
-    ensures { λ r. ⌜ r ≡ all (λ f. notedFacet (now (marks .entry)) (at (now (c .entry)) f)) (threes (now (rows .entry))) ⌝ }
+    ensures { λ r. ⌜ r ≡ all (notedAt (now (marks .entry)) (now (c .entry))) (threes (now (rows .entry))) ⌝ }
 {
     let k = rows.len() / 3;
     let mut i = 0;
@@ -171,7 +170,7 @@ fn triangles_noted(marks: &[u8], c: &[u16], rows: &[u8]) -> bool
 
 fn quads_noted(marks: &[u8], c: &[u16], rows: &[u8]) -> bool
     requires { ⌜ length (now marks) ≡ places ⌝ }
-    ensures { λ r. ⌜ r ≡ all (λ q. notedSplit (now (marks .entry)) (at (now (c .entry)) q)) (fours (now (rows .entry))) ⌝ }
+    ensures { λ r. ⌜ r ≡ all (splits (notedAt (now (marks .entry)) (now (c .entry)))) (fours (now (rows .entry))) ⌝ }
 {
     let k = rows.len() / 4;
     let mut i = 0;
@@ -187,7 +186,7 @@ fn quads_noted(marks: &[u8], c: &[u16], rows: &[u8]) -> bool
 // Every face of the tables may be one of the mesh.
 pub fn faces_noted(marks: &[u8], c: &[u16], triangles: &[u8], quads: &[u8]) -> bool
     requires { ⌜ length (now marks) ≡ places ⌝ }
-    ensures { λ r. ⌜ r ≡ facesNoted (now (marks .entry)) (tabled 0 [] (now (triangles .entry)) (now (quads .entry)) []) (now (c .entry)) ⌝ }
+    ensures { λ r. ⌜ r ≡ facesNoted (now (marks .entry)) (now (c .entry)) (threes (now (triangles .entry))) (fours (now (quads .entry))) ⌝ }
 {
     if !triangles_noted(marks, c, triangles) {
         return false;

@@ -14,7 +14,8 @@ use borrow.Author.Tests.{ltb-true, eqb-true, eq-eqb, not-true, eqb-false}
 use Rattle.base.specs.Lists.{all, every, keep, from, upTo, isIn, distinct, equal}
 use Rattle.templates.specs.Tables.{Place, Template, templates, at}
 use Rattle.space.specs.Mesh.{Mesh, Tetrahedron}
-use Rattle.cells.specs.Cells.{isTuple, isCell, belongs, numbersFrom, numbersOf}
+use Rattle.cells.specs.Cells.{isCell, belongs, numbersFrom, numbersOf}
+use Rattle.cells.proofs.Conditions.{cell-corners}
 use Rattle.cells.specs.Full.{Cell, cell, allowed, grow, universe, cellsOf, fullList}
 use Rattle.templates.specs.Least.{rises, risesAt, isLeast}
 use Rattle.once.specs.Once.{isTurn, none, Once}
@@ -181,31 +182,12 @@ module _ {t : Template} (member : List·Memᴰ t templates) where
 
 -- ---- the listing
 
-cell-tuple : (m : Mesh) (t : Template) (c : List ℕ) → isCell m t c ≡ true → isTuple m t c ≡ true
-unfolding isCell
-cell-tuple m t c e =
-    both-left _ _
-    (both-left _ _ (both-left _ _ (both-left _ _ (both-left _ _ e))))
-
 module _ (m : Mesh) {t : Template} (member : List·Memᴰ t templates) where
   letters : List ℕ → List ℕ
   letters s = at s (t .places)
 
   entryOf : List ℕ → Cell
   entryOf c = cell (t .kind) c (numbersOf m t c)
-
-  module _ (c : List ℕ) (e : isCell m t c ≡ true) where
-    lengthC : length c ≡ t .corners
-    unfolding isTuple
-    lengthC = eqb-true _ _ (both-left _ _ (both-left _ _ (cell-tuple m t c e)))
-
-    belowC : all (λ v. ltb v (length (m .points))) c ≡ true
-    unfolding isTuple
-    belowC = both-right (eqb (length c) (t .corners)) _ (both-left (eqb (length c) (t .corners) && all (λ v. ltb v (length (m .points))) c) _ (cell-tuple m t c e))
-
-    distinctC : distinct c ≡ true
-    unfolding isTuple
-    distinctC = both-right (eqb (length c) (t .corners) && all (λ v. ltb v (length (m .points))) c) _ (cell-tuple m t c e)
 
   -- a turn of c that is in least form is the one least form
   only : (c r : List ℕ) {l : List ℕ} → keep (isLeast t) (map (at c) (t .turns)) ≡ l ∷ [] → List·Memᴰ r (t .turns) → isLeast t (at c r) ≡ true → at c r ≡ l
@@ -226,7 +208,7 @@ module _ (m : Mesh) {t : Template} (member : List·Memᴰ t templates) where
         ∙ keep-map (test c) letters tuples
         ∙ ap (map letters) (grow-once allowed n (λ x. test c (letters x)) (t .search) [] u fit (ap (test c) back ∙ good) one))
         ∙ ap (λ d. cell (t .kind) d (numbersOf m t d) ∷ []) back
-        ∙ ap (λ k. cell (t .kind) (at c (w .0)) k ∷ []) (same m member (w .1) c (lengthC c e) .numbers),
+        ∙ ap (λ k. cell (t .kind) (at c (w .0)) k ∷ []) (same m member (w .1) c (cell-corners m t c e .long) .numbers),
   )
     where
       n : ℕ
@@ -236,22 +218,22 @@ module _ (m : Mesh) {t : Template} (member : List·Memᴰ t templates) where
       tuples = grow allowed n (t .search) []
 
       w : (r : List ℕ) × List·Memᴰ r (t .turns) × (isLeast t (at c r) ≡ true) × (keep (isLeast t) (map (at c) (t .turns)) ≡ at c r ∷ [])
-      w = one-least member c (lengthC c e) (distinctC c e)
+      w = one-least member c (cell-corners m t c e .long) (cell-corners m t c e .apart)
 
       d : List ℕ
       d = at c (w .0)
 
       isC : isCell m t d ≡ true
-      isC = same m member (w .1) c (lengthC c e) .cell ∙ e
+      isC = same m member (w .1) c (cell-corners m t c e .long) .cell ∙ e
 
       u : List ℕ
       u = at d (t .order)
 
       back : letters u ≡ d
-      back = to-order member d (lengthC d isC)
+      back = to-order member d (cell-corners m t d isC .long)
 
       fit : fits allowed n (t .search) [] u ≡ true
-      fit = least-fits member n d (lengthC d isC) (belowC d isC) (distinctC d isC) (w .2)
+      fit = least-fits member n d (cell-corners m t d isC .long) (cell-corners m t d isC .below) (cell-corners m t d isC .apart) (w .2)
 
       good : test c d ≡ true
       good = both _ _ isC (both _ _ (eq-eqb (t .kind) (t .kind) refl) (any-from (λ r. equal (at c r) d) (t .turns) (w .1) (equal-refl d)))
@@ -307,7 +289,7 @@ module _ (m : Mesh) where
       let i = identity (a .1) in
       let self : isTurn t (d .corners) d ≡ true =
       both _ _ (eq-eqb (d .kind) (t .kind) (ap (λ (x : Cell). x .kind) (a .4)))
-      (any-from (λ r. equal (at (d .corners) r) (d .corners)) (t .turns) (i .1) (ap (λ c. equal c (d .corners)) (i .2 (d .corners) (lengthC m (a .1) (d .corners) (a .2))) ∙ equal-refl (d .corners))) in
+      (any-from (λ r. equal (at (d .corners) r) (d .corners)) (t .turns) (i .1) (ap (λ c. equal c (d .corners)) (i .2 (d .corners) (cell-corners m t (d .corners) (a .2) .long)) ∙ equal-refl (d .corners))) in
       let z = List·Memᴰ·eq-of-singleton (subst (λ (x : List Cell). List·Memᴰ d x) (w .2) (keep-mem (isTurn t (d .corners)) (fullList m) h self)) in
       (t, a .1, a .2, a .3, a .4, w .2 ∙ ap (λ x. x ∷ []) (sym z))
 

@@ -12,7 +12,8 @@ use borrow.Author.Tests.{ltb-true}
 use Rattle.base.specs.Lists.{all, any, keep, spread, upTo, isIn, equal}
 use Rattle.templates.specs.Tables.{Place, Template, hexahedron, prism, pyramid, at}
 use Rattle.space.specs.Mesh.{Mesh, together}
-use Rattle.cells.specs.Cells.{isCell, hasEdges, isTuple, hasFaces, isSound, isFilled, isOnePart, numbersOf}
+use Rattle.cells.specs.Cells.{isCell, hasEdges, numbersOf}
+use Rattle.cells.proofs.Conditions.{cell-meets}
 use Rattle.cells.specs.Full.{cell, allowed, grow, universe, cellsOf, fullList}
 use Rattle.once.specs.Pruned.{linked, found, foundAll}
 use Rattle.templates.proofs.Tests.{equal-eq}
@@ -117,18 +118,12 @@ module _ (m : Mesh) (t : Template) (flat : (u : List ℕ) → hasEdges m t (at u
   passes : List ℕ → Bool
   passes s = isCell m t (at s (t .places))
 
-  has : (c : List ℕ) → isCell m t c ≡ true → hasEdges m t c ≡ true
-  unfolding isCell
-  has c e =
-      both-right (isTuple m t c) (hasEdges m t c)
-      (both-left _ (hasFaces m t c) (both-left _ (isSound m t c) (both-left _ (isFilled m t c) (both-left _ (isOnePart m t c) e))))
-
   safe : (k : ℕ) (ps : List Place) → arePlaces (edgesAt t) k ps ≡ true → (s : List ℕ) → length s ≡ k → Safe allowed (linked m) (length (m .points)) passes ps s
   unfolding Safe arePlaces passes whole
   safe k [] e s l = tt
   safe k (p ∷ ps) e s l =
       λ v.
-      (λ q u. fails _ _ (λ w. linked-of m (edgesAt t) s v u p (rw l (both-left (isPlace (edgesAt t) k p) _ e)) (sym (flat ((s ++ (v ∷ [])) ++ u)) ∙ has _ w)) q, safe (suc k) ps (both-right (isPlace (edgesAt t) k p) _ e) (s ++ (v ∷ [])) (omega (arith, length-append s (v ∷ []))))
+      (λ q u. fails _ _ (λ w. linked-of m (edgesAt t) s v u p (rw l (both-left (isPlace (edgesAt t) k p) _ e)) (sym (flat ((s ++ (v ∷ [])) ++ u)) ∙ cell-meets m t _ w .edges)) q, safe (suc k) ps (both-right (isPlace (edgesAt t) k p) _ e) (s ++ (v ∷ [])) (omega (arith, length-append s (v ∷ []))))
 
   letters : List ℕ → List ℕ
   letters s = at s (t .places)

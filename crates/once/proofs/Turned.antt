@@ -185,7 +185,7 @@ module _ (t : Template) (r c : List ℕ) (k : keeps t r ≡ true) (g : every (fa
     pairs xs ys e = all-over (goesTo r) _ _ xs ys (λ ks js q. ap noneOrTwo (turned-sides ks js q)) e
 
     pub turned-filled : isFilled m t (at c r) ≡ isFilled m t c
-    unfolding isFilled isFilledBy isCovered faceTests
+    unfolding isFilled isFilledBy isOnce isPaired isCovered faceTests
     turned-filled =
         ap₂ (λ a b. a && b)
         (ap₂ (λ a b. a && b) (onces _ _ triangles)

@@ -18,7 +18,8 @@ use Rattle.templates.specs.Tables.{Template, hexahedron, prism, pyramid, templa
 use Rattle.templates.specs.Least.{isLeast, risesAt, rises as risesPair}
 use Rattle.templates.proofs.Tests.{agree, both, covers, at-all}
 use Rattle.templates.proofs.Turns.{cornerTests, corners-all, turned-distinct}
-use Rattle.cells.specs.Cells.{isCell, isTuple, hasEdges, hasFaces, isSound, isFilled, isOnePart, numbersOf}
+use Rattle.cells.specs.Cells.{isCell, numbersOf}
+use Rattle.cells.proofs.Conditions.{cell-corners}
 use Rattle.cells.specs.Full.{Cell, cell, allowed, grow, universe, cellsOf}
 use Rattle.portions.specs.Portions.{before, rises, isAfter}
 use Rattle.portions.specs.Tuples.{Agree, Lt}
@@ -72,13 +73,6 @@ flat-of h =
     ⊎-elim (λ q. subst Flat (sym q) flat-hexahedron)
     (λ g. ⊎-elim (λ q. subst Flat (sym q) flat-prism) (λ f. subst Flat (sym (List·Memᴰ·eq-of-singleton f)) flat-pyramid) (List·Memᴰ·cases-cons g))
     (List·Memᴰ·cases-cons h)
-
--- a cell is a tuple of distinct vertices of the mesh
-cell-tuple : (m : Mesh) (t : Template) (c : List ℕ) → isCell m t c ≡ true → (all (λ v. ltb v (length (m .points))) c ≡ true) × (distinct c ≡ true)
-unfolding isCell isTuple
-cell-tuple m t c e =
-    let tuple = both-left _ (hasEdges m t c) (both-left _ (hasFaces m t c) (both-left _ (isSound m t c) (both-left _ (isFilled m t c) (both-left _ (isOnePart m t c) e)))) in
-    (both-right (eqb (length c) (t .corners)) _ (both-left _ (distinct c) tuple), both-right (eqb (length c) (t .corners) && all (λ v. ltb v (length (m .points))) c) _ tuple)
 
 -- the candidates of a kind, in search order
 unfoldable pub candidates : Mesh → Template → List (List ℕ)
@@ -139,9 +133,9 @@ module _ (m : Mesh) (t : Template) (flat : Flat t) where
   leaf-tuple s e =
       let c = at s (t .places) in
       let long : length c ≡ t .corners = length-map (t .places) (λ k. getD s k 0) ∙ flat .sized in
-      let tuple = cell-tuple m t c (both-right (isLeast t c) (isCell m t c) e) in (
-        ap (all (λ v. ltb v (length (m .points)))) (sym (flat .undone s)) ∙ corners-all t (t .order) c (flat .arranged) long (λ v. ltb v (length (m .points))) ∙ tuple .0,
-        ap distinct (sym (flat .undone s)) ∙ turned-distinct t (t .order) c (flat .arranged) long ∙ tuple .1,
+      let tuple = cell-corners m t c (both-right (isLeast t c) (isCell m t c) e) in (
+        ap (all (λ v. ltb v (length (m .points)))) (sym (flat .undone s)) ∙ corners-all t (t .order) c (flat .arranged) long (λ v. ltb v (length (m .points))) ∙ tuple .below,
+        ap distinct (sym (flat .undone s)) ∙ turned-distinct t (t .order) c (flat .arranged) long ∙ tuple .apart,
       )
 
   -- a cell in least form is a candidate

@@ -18,14 +18,15 @@ use Rattle.space.specs.Mesh.{Mesh, together, holds}
 use Rattle.space.specs.Box.{isAbove0}
 use Rattle.space.specs.Arrays.{tetAt, meshOf}
 use Rattle.templates.specs.Tables.{Template, Place, place, hexahedron, prism, pyramid, templateOf, at}
-use Rattle.cells.specs.Cells.{first, second, boxAt, isTuple, hasEdges, isFacet, isSplit, hasFaces, isSound, isFilled, isOnePart, isCell}
+use Rattle.cells.specs.Cells.{first, second, splits, boxOf, boxesAbove, boxAt, hasEdges, isFacet, isSplit, hasFaces, isCell}
 use Rattle.cells.specs.Full.{allowed}
-use Rattle.cells.specs.Rows.{threes, fours}
-use Rattle.marks.specs.Marks.{noted, Marked, splitAt, notedFacet, notedSplit, facesNoted}
+use Rattle.cells.specs.Rows.{pointsOf}
+use Rattle.cells.proofs.Conditions.{Conditions, cell-meets, sound-boxes}
+use Rattle.marks.specs.Marks.{noted, Marked, bothNoted, splitAt, notedFacet, notedAt, facesNoted}
 use Rattle.portions.specs.Tuples.{front, Agree}
 use Rattle.rule.specs.Rule.{goesOn, isLeaf}
 use Rattle.rule.proofs.OneKind.{Flat, flat-hexahedron, flat-prism, flat-pyramid, leaf-goes}
-use Rattle.levels.specs.Levels.{base, trianglesAt, quadsAt, triplesAt, lesser, joined, part, levelOf, levels}
+use Rattle.levels.specs.Levels.{base, lesser, levelTriangles, levelQuads, levelTriples}
 use Rattle.levels.specs.Fits.{comesAfter, fits}
 use Rattle.levels.proofs.Fresh.{take-run}
 use Rattle.levels.proofs.Right.{isRow, Right, right-at, run-same, at-row, row-sizes, vertex-same, row-same, rows-pass}
@@ -73,7 +74,7 @@ or-imp false b true d f g e = refl
 or-imp false b false d f g e = g e
 
 module _ {ls ms : List ℕ} (g : Marked ls ms) where
-  both-noted : (u v w x y z : ℕ) → all (together (meshOf [] ls [])) ((u ∷ v ∷ w ∷ []) ∷ (x ∷ y ∷ z ∷ []) ∷ []) ≡ true → (noted ms u v w && noted ms x y z) ≡ true
+  both-noted : (u v w x y z : ℕ) → all (together (meshOf [] ls [])) ((u ∷ v ∷ w ∷ []) ∷ (x ∷ y ∷ z ∷ []) ∷ []) ≡ true → bothNoted ms u v w x y z ≡ true
   both-noted u v w x y z e =
       let a = both-left (together (meshOf [] ls []) (u ∷ v ∷ w ∷ [])) _ e in
       let b = both-left (together (meshOf [] ls []) (x ∷ y ∷ z ∷ [])) _ (both-right (together (meshOf [] ls []) (u ∷ v ∷ w ∷ [])) _ e) in
@@ -81,7 +82,7 @@ module _ {ls ms : List ℕ} (g : Marked ls ms) where
 
   split-noted : (w x y z : ℕ) → splitBy (together (meshOf [] ls [])) w x y z ≡ true → splitAt ms w x y z ≡ true
   split-noted w x y z e =
-      or-imp (all (together (meshOf [] ls [])) ((w ∷ x ∷ y ∷ []) ∷ (w ∷ y ∷ z ∷ []) ∷ [])) (all (together (meshOf [] ls [])) ((w ∷ x ∷ z ∷ []) ∷ (x ∷ y ∷ z ∷ []) ∷ [])) (noted ms w x y && noted ms w y z) (noted ms w x z && noted ms x y z) (both-noted w x y w y z) (both-noted w x z x y z) e
+      or-imp (all (together (meshOf [] ls [])) ((w ∷ x ∷ y ∷ []) ∷ (w ∷ y ∷ z ∷ []) ∷ [])) (all (together (meshOf [] ls [])) ((w ∷ x ∷ z ∷ []) ∷ (x ∷ y ∷ z ∷ []) ∷ [])) (bothNoted ms w x y w y z) (bothNoted ms w x z x y z) (both-noted w x y w y z) (both-noted w x z x y z) e
 
 -- ── a listed tuple ──
 
@@ -104,22 +105,14 @@ module _ (zs : List ℤ) (ls ps : List ℕ) (k : ℕ) (s : List ℕ) (leaf : isL
   cell : isCell m t c ≡ true
   cell = both-right (goesOn (length (m .points)) (t .search) [] (front (t .corners) s)) _ both
 
-  sound : isSound m t c ≡ true
-  unfolding isCell
-  sound = both-right (isTuple m t c && hasEdges m t c && hasFaces m t c) _ (both-left (isTuple m t c && hasEdges m t c && hasFaces m t c && isSound m t c) _ (both-left (isTuple m t c && hasEdges m t c && hasFaces m t c && isSound m t c && isFilled m t c) _ cell))
-
-  firstThree : (isTuple m t c && hasEdges m t c && hasFaces m t c) ≡ true
-  unfolding isCell
-  firstThree = both-left (isTuple m t c && hasEdges m t c && hasFaces m t c) _ (both-left (isTuple m t c && hasEdges m t c && hasFaces m t c && isSound m t c) _ (both-left (isTuple m t c && hasEdges m t c && hasFaces m t c && isSound m t c && isFilled m t c) _ cell))
-
-  faces : hasFaces m t c ≡ true
-  faces = both-right (isTuple m t c && hasEdges m t c) _ firstThree
+  met : Conditions m t c
+  met = cell-meets m t c cell
 
   pub leaf-faces : hasFaces (meshOf zs ls ps) (templateOf k) (at s (templateOf k .places)) ≡ true
-  leaf-faces = faces
+  leaf-faces = met .faces
 
   pub leaf-edges : hasEdges (meshOf zs ls ps) (templateOf k) (at s (templateOf k .places)) ≡ true
-  leaf-edges = both-right (isTuple m t c) _ (both-left (isTuple m t c && hasEdges m t c) _ firstThree)
+  leaf-edges = met .edges
 
   module _ (d : ℕ) (h : d < t .corners) where
     at-place : (getD s d 0 < length (m .points)) × (allowed (getD (t .search) d (place [] [])) (front d s) (getD s d 0) ≡ true)
@@ -156,32 +149,27 @@ module _ (zs : List ℤ) (ls ps : List ℕ) (k : ℕ) (s : List ℕ) (leaf : isL
           ap (λ y. ltb y v) (g i (omega (arith, right .ofLesser)) ∙ sym (getD-up (λ i. getD s i 0) 0 d i (omega (arith, right .ofLesser))))
           ∙ all-at (λ i. ltb (getD (front d s) i 0) v) (upTo (getD lesser (base k + d) 0)) b′ w))
 
-      sound-here : isSound (meshOf zs [] []) (levelOf (base k + d)) u ≡ true
-      unfolding isSound boxAt
-      sound-here =
-          rows-pass (λ q. isAbove0 (boxAt m (at c q))) (λ r. isAbove0 (boxAt (meshOf zs [] []) (at u r))) 4 t d (fours (part levels triplesAt (base k + d))) (t .triples) (right .ofTriples) sound
-          (λ r q e f. sym (same-box (at u r)) ∙ ap (λ vs. isAbove0 (boxAt m vs)) (row-same 4 t d r q u s e g) ∙ f)
-        where
-          same-box : (vs : List ℕ) → isAbove0 (boxAt (meshOf zs ls ps) vs) ≡ isAbove0 (boxAt (meshOf zs [] []) vs)
-          same-box vs = refl
+      boxes : boxesAbove (boxOf (pointsOf zs)) u (levelTriples (base k + d)) ≡ true
+      unfolding boxAt
+      boxes =
+          rows-pass (λ q. isAbove0 (boxAt m (at c q))) (λ r. isAbove0 (boxAt m (at u r))) 4 t d (levelTriples (base k + d)) (t .triples) (right .ofTriples) (sound-boxes m t c (met .sound))
+          (λ r q e f. ap (λ vs. isAbove0 (boxAt m vs)) (row-same 4 t d r q u s e g) ∙ f)
 
       module _ {ms : List ℕ} (marked : Marked ls ms) where
-        facets : all (λ f. notedFacet ms (at u f)) (threes (part levels trianglesAt (base k + d))) ≡ true
+        facets : all (notedAt ms u) (levelTriangles (base k + d)) ≡ true
         unfolding hasFaces isFacet
         facets =
-            rows-pass (isFacet m t c) (λ f. notedFacet ms (at u f)) 3 t d (threes (part levels trianglesAt (base k + d))) (t .triangles) (right .ofTriangles) (both-left (all (isFacet m t c) (t .triangles)) _ faces)
+            rows-pass (isFacet m t c) (notedAt ms u) 3 t d (levelTriangles (base k + d)) (t .triangles) (right .ofTriangles) (both-left (all (isFacet m t c) (t .triangles)) _ (met .faces))
             (λ r q e f.
             let o = at-row u r 3 (row-sizes 3 t d r q e .0) in
             ap (notedFacet ms) o
             ∙ marked .facets (getD u (getD r 0 0) 0) (getD u (getD r 1 0) 0) (getD u (getD r 2 0) 0) (ap (together (meshOf [] ls [])) (sym o) ∙ sym (together-bare zs ls ps (at u r)) ∙ ap (together m) (row-same 3 t d r q u s e g) ∙ f))
 
-        splits : all (λ q. notedSplit ms (at u q)) (fours (part levels quadsAt (base k + d))) ≡ true
+        halves : all (splits (notedAt ms u)) (levelQuads (base k + d)) ≡ true
         unfolding hasFaces isSplit isFacet first second
-        splits =
-            rows-pass (isSplit m t c) (λ q. notedSplit ms (at u q)) 4 t d (fours (part levels quadsAt (base k + d))) (t .quads) (right .ofQuads) (both-right (all (isFacet m t c) (t .triangles)) _ faces)
-            (λ r q e f.
-            ap (notedSplit ms) (at-row u r 4 (row-sizes 4 t d r q e .0))
-            ∙ split-noted marked (getD u (getD r 0 0) 0) (getD u (getD r 1 0) 0) (getD u (getD r 2 0) 0) (getD u (getD r 3 0) 0) (same-split r q (vertex-same 4 t d r q u s e g) ∙ f))
+        halves =
+            rows-pass (isSplit m t c) (splits (notedAt ms u)) 4 t d (levelQuads (base k + d)) (t .quads) (right .ofQuads) (both-right (all (isFacet m t c) (t .triangles)) _ (met .faces))
+            (λ r q e f. split-noted marked (getD u (getD r 0 0) 0) (getD u (getD r 1 0) 0) (getD u (getD r 2 0) 0) (getD u (getD r 3 0) 0) (same-split r q (vertex-same 4 t d r q u s e g) ∙ f))
           where
             same-split : (r q : List ℕ) → ((i : ℕ) → i < 4 → getD u (getD r i 0) 0 ≡ getD c (getD q i 0) 0) → splitBy (together (meshOf [] ls [])) (getD u (getD r 0 0) 0) (getD u (getD r 1 0) 0) (getD u (getD r 2 0) 0) (getD u (getD r 3 0) 0) ≡ isSplit (meshOf zs ls ps) (templateOf k) c q
             same-split r q f =
@@ -191,4 +179,4 @@ module _ (zs : List ℤ) (ls ps : List ℕ) (k : ℕ) (s : List ℕ) (leaf : isL
         -- the test of level d, of any tuple that begins as this one does
         pub passes : fits zs ms (base k + d) d u ≡ true
         unfolding fits facesNoted
-        passes = rw (comes, sound-here, facets, splits)
+        passes = rw (comes, boxes, facets, halves)

@@ -1,4 +1,5 @@
-pub mod Bare
+pub mod Tables
 pub mod Numbers
 pub mod Cell
 pub mod Solid
+pub mod OfKind

@@ -7,20 +7,17 @@ use Prim.Native.Nat.{ℕ, suc}
 use native.Mathlib.Omega.{arith}
 use borrow.Author.Tests.{eqb-true}
 use lib.Dec.{eqb}
-use lib.IntN.{ℤ}
 use lib.ListN.{getD}
 use Rattle.base.specs.Lists.{all, any, count, keep, isIn}
 use Rattle.base.proofs.Bools.{or-either, and-left, and-right}
 use Rattle.base.proofs.Lists.{all-at, any-at}
 use Rattle.base.proofs.Members.{all-map}
 use Rattle.space.specs.Mesh.{Mesh, Tetrahedron, holds, together}
-use Rattle.space.specs.Arrays.{meshOf}
 use Rattle.around.proofs.Around.{count-keep}
-use Rattle.templates.specs.Tables.{Template, hexahedron, prism, pyramid, at}
-use Rattle.cells.specs.Cells.{first, second, inside, one, noneOrTwo, isTuple, hasEdges, isFacet, isSplit, hasFaces, isSound, belongs, tetsOf, sides, isOnce, isPaired, isCovered, isFilledBy, isFilled, isOnePart, isCell}
+use Rattle.templates.specs.Tables.{Template, at}
+use Rattle.cells.specs.Cells.{first, second, inside, one, once, paired, covers, fills, splits, allFaces, isTuple, hasEdges, isFacet, isSplit, hasFaces, isSound, belongs, tetsOf, sides, isFilledBy, isFilled, isOnePart, isCell}
 use Rattle.verdict.specs.declared.Verdict.{Verdict}
 use Rattle.verdict.specs.Judged.{lastOf, isSolid, Tells}
-use Rattle.verdict.proofs.Numbers.{numbers-same, found-as}
 
 or-left : (a b : Bool) → a ≡ true → (a || b) ≡ true
 or-left a b e = rw e
@@ -53,46 +50,48 @@ module _ {A : Type 0} (p q : A → Bool) (f : (x : A) → p x ≡ true → q x �
 
 -- ---- from condition 5 to 3
 
+-- where a triple that is counted once is a facet, what fills has its faces
+module _ (g : List ℕ → ℕ) (f : List ℕ → Bool) (so : (ks : List ℕ) → once g ks ≡ true → f ks ≡ true) where
+  covers-splits : (q : List ℕ) → covers g q ≡ true → splits f q ≡ true
+  covers-splits q e =
+      let a = all (once g) (first q) in
+      let b = all (once g) (second q) in
+      or-either (a && all (paired g) (second q)) (b && all (paired g) (first q)) e
+      (λ h. or-left (all f (first q)) _ (all-so (once g) f so (first q) (and-left a _ h)))
+      (λ h. or-right (all f (first q)) _ (all-so (once g) f so (second q) (and-left b _ h)))
+
+  fills-faces : (ts qs ws : List (List ℕ)) → fills g ts qs ws ≡ true → allFaces f ts qs ≡ true
+  fills-faces ts qs ws e =
+      let a = all (once g) ts in
+      let b = all (covers g) qs in
+      let h = and-left (a && b) (all (paired g) ws) e in
+      both (all-so (once g) f so ts (and-left a b h)) (all-so (covers g) (splits f) covers-splits qs (and-right a b h))
+
 module _ (m : Mesh) (t : Template) (c : List ℕ) where
-  once-facet : (ks : List ℕ) → isOnce m t c ks ≡ true → isFacet m t c ks ≡ true
-  unfolding isOnce one sides tetsOf isFacet together
+  once-facet : (ks : List ℕ) → once (sides m t c) ks ≡ true → isFacet m t c ks ≡ true
+  unfolding one sides tetsOf isFacet together
   once-facet ks e =
       count-so (λ x. holds (at c ks) x && belongs m t c x) (holds (at c ks)) (λ x h. and-left (holds (at c ks) x) (belongs m t c x) h) (m .tets) 0
       (sym (count-keep (holds (at c ks)) (belongs m t c) (m .tets)) ∙ eqb-true _ 1 e)
 
-  covered-split : (q : List ℕ) → isCovered m t c q ≡ true → isSplit m t c q ≡ true
-  unfolding isCovered isSplit
-  covered-split q e =
-      let a = all (isOnce m t c) (first q) in
-      let b = all (isOnce m t c) (second q) in
-      let d = all (isFacet m t c) (first q) in
-      or-either (a && all (isPaired m t c) (second q)) (b && all (isPaired m t c) (first q)) e
-      (λ h. or-left d _ (all-so (isOnce m t c) (isFacet m t c) once-facet (first q) (and-left a _ h)))
-      (λ h. or-right d _ (all-so (isOnce m t c) (isFacet m t c) once-facet (second q) (and-left b _ h)))
-
   filled-faces : isFilled m t c ≡ true → hasFaces m t c ≡ true
   unfolding isFilled isFilledBy hasFaces
-  filled-faces e =
-      let a = all (isOnce m t c) (t .triangles) in
-      let b = all (isCovered m t c) (t .quads) in
-      let d = all (isPaired m t c) (inside t) in
-      both (all-so (isOnce m t c) (isFacet m t c) once-facet (t .triangles) (and-left a b (and-left (a && b) d e)))
-      (all-so (isCovered m t c) (isSplit m t c) covered-split (t .quads) (and-right a b (and-left (a && b) d e)))
+  filled-faces = fills-faces (sides m t c) (isFacet m t c) once-facet (t .triangles) (t .quads) (inside t)
 
 -- ---- from condition 3 to 2
 
 -- each of these corners is one of those
-abbrev among : List ℕ → List ℕ → Bool
+abbrev pub among : List ℕ → List ℕ → Bool
 among ks f = all (λ k. isIn k f) ks
 
 -- a side of a triangle of either diagonal
-abbrev isSide : List ℕ → List ℕ → Bool
+abbrev pub isSide : List ℕ → List ℕ → Bool
 isSide e q = any (among e) (first q) && any (among e) (second q)
 
-abbrev onFace : Template → List ℕ → Bool
+abbrev pub onFace : Template → List ℕ → Bool
 onFace t e = any (among e) (t .triangles) || any (isSide e) (t .quads)
 
-abbrev edged : Template → Bool
+abbrev pub edged : Template → Bool
 edged t = all (onFace t) (t .edges)
 
 module _ (m : Mesh) (t : Template) (c : List ℕ) where
@@ -120,7 +119,7 @@ module _ (m : Mesh) (t : Template) (c : List ℕ) where
       or-either (all (isFacet m t c) (first q)) _ h (some-joined e (first q) (and-left a b s)) (some-joined e (second q) (and-right a b s))
 
   faces-edges : edged t ≡ true → hasFaces m t c ≡ true → hasEdges m t c ≡ true
-  unfolding hasEdges hasFaces
+  unfolding hasEdges hasFaces isSplit
   faces-edges w f =
       let a = all (isFacet m t c) (t .triangles) in
       let b = all (isSplit m t c) (t .quads) in
@@ -143,55 +142,18 @@ drop-two true false d true false o p q = refl
 drop-two true false d false false o p q = refl
 drop-two false b d s f o p q = refl
 
--- a template without its edges, as the code has it
-abbrev pub edgeless : Template → Template
-edgeless t = record {
-  kind = 0;
-  corners = t .corners;
-  edges = [];
-  triangles = t .triangles;
-  quads = t .quads;
-  triples = t .triples;
-  order = [];
-  places = [];
-  search = [];
-  less = [];
-  turns = [];
-  mirror = [];
-}
-
-pub edgeless-is : (m : Mesh) (t : Template) (c : List ℕ) → isSolid m (edgeless t) c ≡ isSolid m t c
-unfolding isSolid isTuple isSound belongs tetsOf sides isOnce isPaired isCovered isFilledBy isFilled isOnePart inside
-edgeless-is m t c = refl
-
-pub solid-is : (m : Mesh) (t : Template) (c : List ℕ) → edged t ≡ true → isSolid m (edgeless t) c ≡ isCell m t c
+solid-is : (m : Mesh) (t : Template) (c : List ℕ) → edged t ≡ true → isSolid m t c ≡ isCell m t c
 unfolding isSolid isCell
 solid-is m t c w =
-    edgeless-is m t c ∙
     drop-two (isTuple m t c) (hasEdges m t c) (hasFaces m t c) (isSound m t c) (isFilled m t c) (isOnePart m t c) (filled-faces m t c) (faces-edges m t c w)
 
--- the same with the tetrahedra, which the edges have no say in
-pub tells-cell : {v : Verdict} (zs : List ℤ) (ls ps : List ℕ) (t : Template) (c : List ℕ) → edged t ≡ true → Tells isSolid (meshOf zs ls ps) (edgeless t) c v → Tells isCell (meshOf zs ls ps) t c v
-tells-cell {v} zs ls ps t c w x = record {
-  is = x .is ∙ solid-is (meshOf zs ls ps) t c w;
-  tets = λ y. found-as (sym (numbers-same zs ls ps t (edgeless t) c refl) ∙ numbers-same zs ls ps t t c refl) (x .tets y);
-}
+-- the same with the tetrahedra
+pub tells-cell : {m : Mesh} {t : Template} {c : List ℕ} {v : Verdict} → edged t ≡ true → Tells isSolid m t c v → Tells isCell m t c v
+tells-cell {m} {t} {c} w x = record { is = x .is ∙ solid-is m t c w; tets = x .tets }
 
 -- no is told where the test fails; then no tetrahedra are asked for
 pub tells-no : {test : Mesh → Template → List ℕ → Bool} {m : Mesh} {t : Template} {c : List ℕ} {v : Verdict} → v .yes ≡ false → false ≡ test m t c → Tells test m t c v
 tells-no n e = record { is = n ∙ e; tets = λ y. absurd (true≢false (sym y ∙ n)) }
-
-pub hexahedron-edged : edged hexahedron ≡ true
-unfolding first second
-hexahedron-edged = refl
-
-pub prism-edged : edged prism ≡ true
-unfolding first second
-prism-edged = refl
-
-pub pyramid-edged : edged pyramid ≡ true
-unfolding first second
-pyramid-edged = refl
 
 -- conditions 5 and 6 as one test
 pub last-two : (f o : Bool) → eqb (lastOf f o) 0 ≡ (f && o)

@@ -1,28 +1,28 @@
 // The cell test, for a kind and its eight numbers: the first of conditions 1 to 6 that a tuple fails; whether it is a cell, with its tetrahedra.
 ghost use mathlib.Core.Path.{_≡_};
 ghost use mathlib.Core.Bool.{false};
-ghost use mathlib.Core.List.{[]};
 ghost use Prim.Native.Nat.{_*_, _/_, _≤_};
 ghost use lib.ListN.{length, take};
 ghost use Rattle.space.specs.Arrays.{meshOf};
 ghost use Rattle.around.specs.Build.{Within};
-ghost use Rattle.around.specs.Index.{Indexed};
-ghost use Rattle.templates.specs.Tables.{hexahedron, prism, pyramid, templateOf};
-ghost use Rattle.cells.specs.Cells.{inside, numbersOf, isCell, firstFailing};
-ghost use Rattle.cells.specs.Rows.{threes, fours, tabled, quadsOf};
-ghost use Rattle.filling.specs.Found.{Found};
-ghost use Rattle.filling.specs.Filled.{sidesIn, Lettered, fills, onePart};
 ghost use Rattle.around.specs.Arrays.{Arrays};
-ghost use Rattle.verdict.specs.Judged.{lastOf, lastFailing, isSolid, Tells};
+ghost use Rattle.around.specs.Index.{Indexed};
+ghost use Rattle.templates.specs.Tables.{Template, hexahedron, prism, pyramid, templateOf};
+ghost use Rattle.templates.specs.Flat.{pairs};
+ghost use Rattle.cells.specs.Cells.{isCell, firstFailing};
+ghost use Rattle.cells.specs.Rows.{fours, ownNumbers};
+ghost use Rattle.filling.specs.Found.{Found};
+ghost use Rattle.counting.specs.Noted.{Lettered};
+ghost use Rattle.verdict.specs.Judged.{TablesOf, lastWith, lastFailing, isSolid, Tells};
 use cells::has_edges;
 use cells::has_faces;
 use cells::is_sound;
 use cells::is_tuple;
+use counting::is_filled;
+use counting::is_one_part;
 use filling::Tets;
 use filling::belongs_to;
 use filling::find;
-use filling::is_filled;
-use filling::is_one_part;
 use space::Tet;
 use templates::HEX_EDGES;
 use templates::HEX_INSIDE;
@@ -61,7 +61,7 @@ fn judge_list(
 ) -> u8
     requires { ⌜ Within (length (now labels) / 4) (now list) × Within (length (now parts)) (now list) ⌝ }
     requires { ⌜ (length (now has) ≡ 8 * length (now list)) × Lettered (now triangles) (now quads) (now within) ⌝ }
-    ensures { λ r. ⌜ r ≡ lastOf (fills (sidesIn (now (labels .entry)) (now (list .entry)) (now (c .entry))) (threes (now (triangles .entry))) (fours (now (quads .entry))) (threes (now (within .entry)))) (onePart (now (parts .entry)) (now (list .entry))) ⌝ }
+    ensures { λ r. ⌜ r ≡ lastWith (now (labels .entry)) (now (parts .entry)) (now (list .entry)) (now (c .entry)) (now (triangles .entry)) (now (quads .entry)) (now (within .entry)) ⌝ }
 {
     if !is_filled(labels, list, c, triangles, quads, within, has) {
         return 5;
@@ -119,7 +119,7 @@ fn judge_few(
     quads: &[u8],
     within: &[u8],
 ) -> u8
-    requires { ⌜ Found (numbersOf (meshOf [] (now labels) []) (quadsOf (now quads)) (now c)) found × ((found .count ≤ 25) × (length (now parts) ≡ length (now labels) / 4)) ⌝ }
+    requires { ⌜ Found (ownNumbers (now labels) (fours (now quads)) (now c)) found × ((found .count ≤ 25) × (length (now parts) ≡ length (now labels) / 4)) ⌝ }
     requires { ⌜ Lettered (now triangles) (now quads) (now within) ⌝ }
     ensures { λ r. ⌜ r ≡ lastFailing (now (labels .entry)) (now (parts .entry)) (now (c .entry)) (now (triangles .entry)) (now (quads .entry)) (now (within .entry)) ⌝ }
 {
@@ -148,7 +148,7 @@ fn judge_found(
     quads: &[u8],
     within: &[u8],
 ) -> u8
-    requires { ⌜ Found (numbersOf (meshOf [] (now labels) []) (quadsOf (now quads)) (now c)) found ⌝ }
+    requires { ⌜ Found (ownNumbers (now labels) (fours (now quads)) (now c)) found ⌝ }
     requires { ⌜ (length (now labels) / 4 ≤ 2048) × (length (now parts) ≡ length (now labels) / 4) ⌝ }
     requires { ⌜ Lettered (now triangles) (now quads) (now within) ⌝ }
     ensures { λ r. ⌜ r ≡ lastFailing (now (labels .entry)) (now (parts .entry)) (now (c .entry)) (now (triangles .entry)) (now (quads .entry)) (now (within .entry)) ⌝ }
@@ -182,7 +182,7 @@ fn judge_tets(
 
 // ---- all six
 
-// For the template that these tables say; `within` are the triples on no face.
+// For whatever template these tables are of; `within` are the triples on no face.
 fn judge_by(
     coords: &[i64],
     labels: &[u16],
@@ -199,9 +199,8 @@ fn judge_by(
     within: &[u8],
 ) -> u8
     requires { ⌜ Arrays (now coords) (now labels) (now parts) n (now offsets) (now entries) ⌝ }
-    requires { ⌜ threes (now within) ≡ inside (tabled corners (now edges) (now triangles) (now quads) (now triples)) ⌝ }
     requires { ⌜ Lettered (now triangles) (now quads) (now within) ⌝ }
-    ensures { λ r. ⌜ r ≡ firstFailing (meshOf (now (coords .entry)) (now (labels .entry)) (now (parts .entry))) (tabled corners (now (edges .entry)) (now (triangles .entry)) (now (quads .entry)) (now (triples .entry))) (now (c .entry)) ⌝ }
+    ensures { λ r. ⌜ ((t : Template) → TablesOf t corners (now (triangles .entry)) (now (quads .entry)) (now (triples .entry)) (now (within .entry)) → pairs (now (edges .entry)) ≡ t .edges → r ≡ firstFailing (meshOf (now (coords .entry)) (now (labels .entry)) (now (parts .entry))) t (now (c .entry))) ⌝ }
 {
     if !is_tuple(coords, c, corners) {
         return 1;
@@ -373,7 +372,7 @@ pub fn no() -> Verdict
     }
 }
 
-// Conditions 1, 4, 5 and 6 for the template that these tables say, the cheap ones first; `within` are the triples on no face.
+// Conditions 1, 4, 5 and 6 for whatever template these tables are of, the cheap ones first; `within` are the triples on no face.
 fn is_solid(
     coords: &[i64],
     labels: &[u16],
@@ -389,9 +388,8 @@ fn is_solid(
     within: &[u8],
 ) -> Verdict
     requires { ⌜ Arrays (now coords) (now labels) (now parts) n (now offsets) (now entries) ⌝ }
-    requires { ⌜ threes (now within) ≡ inside (tabled corners [] (now triangles) (now quads) (now triples)) ⌝ }
     requires { ⌜ Lettered (now triangles) (now quads) (now within) ⌝ }
-    ensures { λ r. ⌜ Tells isSolid (meshOf (now (coords .entry)) (now (labels .entry)) (now (parts .entry))) (tabled corners [] (now (triangles .entry)) (now (quads .entry)) (now (triples .entry))) (now (c .entry)) r ⌝ }
+    ensures { λ r. ⌜ ((t : Template) → TablesOf t corners (now (triangles .entry)) (now (quads .entry)) (now (triples .entry)) (now (within .entry)) → Tells isSolid (meshOf (now (coords .entry)) (now (labels .entry)) (now (parts .entry))) t (now (c .entry)) r) ⌝ }
 {
     if !is_tuple(coords, c, corners) {
         return no();

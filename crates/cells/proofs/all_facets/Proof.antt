@@ -2,18 +2,15 @@
 use mathlib.Core.Path.{_≡_, refl, sym, _∙_}
 use Prim.Native.Nat.{_/_, _-_}
 use lib.ListN.{length}
-use mathlib.Core.List.{[]}
 use borrow.Author.Tests.{not-true, not-false}
-use Rattle.space.specs.Arrays.{meshOf}
-use Rattle.cells.specs.Rows.{row3, quadsOf}
-use Rattle.cells.specs.Cells.{isFacet}
+use Rattle.cells.specs.Rows.{row3, facetIn}
 use Rattle.base.proofs.Loop.{AllUp, all-start, all-next, all-fails, all-done}
 use native.Mathlib.Omega.{arith}
 use Rattle.cells.proofs.all_facets.Statement.{statement}
 use Rattle.cells.proofs.all_facets.Tie as tie
 
 abbrev Inv-loop : tie.InvT-loop
-Inv-loop labels n offsets entries c rows k i₀ i = (k ≡ length rows / 3) × AllUp (isFacet (meshOf [] labels []) (quadsOf []) c) (row3 rows) k i
+Inv-loop labels n offsets entries c rows k i₀ i = (k ≡ length rows / 3) × AllUp (facetIn labels c) (row3 rows) k i
 
 abbrev μ-loop : tie.MeasureT-loop
 μ-loop labels n offsets entries c rows k i₀ i = k - i

@@ -2,18 +2,17 @@
 use mathlib.Core.Path.{_≡_, refl, sym, _∙_}
 use Prim.Native.Nat.{_/_, _-_}
 use lib.ListN.{length}
-use mathlib.Core.List.{[]}
 use borrow.Author.Tests.{not-true, not-false}
-use Rattle.space.specs.Arrays.{row4, meshOf}
-use Rattle.cells.specs.Rows.{quadsOf}
-use Rattle.cells.specs.Cells.{isSplit}
+use Rattle.space.specs.Arrays.{row4}
+use Rattle.cells.specs.Cells.{splits}
+use Rattle.cells.specs.Rows.{facetIn}
 use Rattle.base.proofs.Loop.{AllUp, all-start, all-next, all-fails, all-done}
 use native.Mathlib.Omega.{arith}
 use Rattle.cells.proofs.all_split.Statement.{statement}
 use Rattle.cells.proofs.all_split.Tie as tie
 
 abbrev Inv-loop : tie.InvT-loop
-Inv-loop labels n offsets entries c rows k i₀ i = (k ≡ length rows / 4) × AllUp (isSplit (meshOf [] labels []) (quadsOf []) c) (row4 rows) k i
+Inv-loop labels n offsets entries c rows k i₀ i = (k ≡ length rows / 4) × AllUp (splits (facetIn labels c)) (row4 rows) k i
 
 abbrev μ-loop : tie.MeasureT-loop
 μ-loop labels n offsets entries c rows k i₀ i = k - i

@@ -2,20 +2,17 @@
 use mathlib.Core.Path.{_≡_, refl, sym, _∙_}
 use Prim.Native.Nat.{_/_, _-_}
 use lib.ListN.{length}
-use mathlib.Core.List.{[]}
 use borrow.Author.Tests.{not-true, not-false}
-use Rattle.space.specs.Arrays.{meshOf}
-use Rattle.space.specs.Mesh.{together}
 use Rattle.templates.specs.Tables.{at}
 use Rattle.templates.specs.Flat.{pairAt}
-use Rattle.cells.specs.Cells.{hasEdges}
+use Rattle.cells.specs.Rows.{togetherIn}
 use Rattle.base.proofs.Loop.{AllUp, all-start, all-next, all-fails, all-done}
 use native.Mathlib.Omega.{arith}
 use Rattle.cells.proofs.has_edges.Statement.{statement}
 use Rattle.cells.proofs.has_edges.Tie as tie
 
 abbrev Inv-loop : tie.InvT-loop
-Inv-loop labels n offsets entries c edges k i₀ i = (k ≡ length edges / 2) × AllUp (λ e. together (meshOf [] labels []) (at c e)) (pairAt edges) k i
+Inv-loop labels n offsets entries c edges k i₀ i = (k ≡ length edges / 2) × AllUp (λ e. togetherIn labels (at c e)) (pairAt edges) k i
 
 abbrev μ-loop : tie.MeasureT-loop
 μ-loop labels n offsets entries c edges k i₀ i = k - i
@@ -27,7 +24,6 @@ edge-requires : tie.Need-edge-requires Inv-loop μ-loop
 edge-requires c κs = (c .before .before .before .before .before .before .before .pre, omega arith)
 
 returns : tie.Need-returns Inv-loop μ-loop
-unfolding hasEdges
 returns c = all-fails (c .before .before .before .loop .inv .1) (omega arith) (sym (c .before .edge .ensures) ∙ not-true _ (c .if1 .taken))
 
 add-i : tie.Need-add-i Inv-loop μ-loop
@@ -40,7 +36,6 @@ loop-again : tie.Need-loop-again Inv-loop μ-loop
 loop-again c = (refl, all-next (c .before .before .before .loop .inv .1) (omega arith) (sym (c .before .edge .ensures) ∙ not-false _ (c .if1 .left)))
 
 returns-2 : tie.Need-returns-2 Inv-loop μ-loop
-unfolding hasEdges
 returns-2 c = all-done (c .before .loop .inv .1) (omega arith)
 
 pub has-edges-spec : {M : Type 1} → statement M

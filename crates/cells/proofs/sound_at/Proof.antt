@@ -1,6 +1,5 @@
 -- `cells::sound_at` meets its contract. Assumes nothing.
 use mathlib.Core.Path.{_∙_}
-use Rattle.cells.specs.Cells.{boxAt}
 use mir.Syntax.{w64}
 use mir.ValLaws.{toZ-ofZ}
 use Rattle.space.proofs.Near.{above-is}
@@ -39,7 +38,6 @@ volume-requires : tie.Need-volume-requires
 volume-requires c κs = search needs
 
 returns : tie.Need-returns
-unfolding boxAt
 returns c =
     rw (toZ-ofZ w64 (c .volume .result) (search needs))
     (above-is (c .volume .result) ∙

@@ -1,7 +1,7 @@
 -- `filling::belongs_to` meets its contract. Assumes nothing.
 use mathlib.Core.Path.{ap}
 use Rattle.base.proofs.Bools.{and-fails, and-passes}
-use Rattle.cells.specs.Cells.{belongs}
+use Rattle.cells.specs.Rows.{owns}
 use mathlib.Core.Bool.{not}
 use borrow.Author.Needs.{needs}
 use Rattle.filling.proofs.belongs_to.Statement.{statement}
@@ -11,14 +11,14 @@ all-in-requires : tie.Need-all-in-requires
 all-in-requires c κs = search needs
 
 returns : tie.Need-returns
-unfolding belongs
+unfolding owns
 returns c = and-fails (c .before .all-in .ensures) (c .if1 .taken) _
 
 on-some-quad-requires : tie.Need-on-some-quad-requires
 on-some-quad-requires c κs = search needs
 
 returns-2 : tie.Need-returns-2
-unfolding belongs
+unfolding owns
 returns-2 c = and-passes (c .before .before .all-in .ensures) (c .before .if1 .left) (ap not (c .on-some-quad .ensures))
 
 pub belongs-to-spec : {M : Type 1} → statement M

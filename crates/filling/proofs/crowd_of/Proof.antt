@@ -1,20 +1,17 @@
 -- `filling::crowd_of` meets its contract. Assumes nothing.
 use mathlib.Core.Path.{_≡_, refl}
 use mathlib.Core.Logic.{⊎-elim}
-use mathlib.Core.List.{[]}
 use Prim.Native.Nat.{_/_, _-_, _≤_}
 use lib.ListN.{length}
 use native.Mathlib.Omega.{arith}
-use Rattle.space.specs.Arrays.{tetAt, meshOf}
-use Rattle.cells.specs.Cells.{belongs}
-use Rattle.cells.specs.Rows.{quadsOf}
+use Rattle.cells.specs.Rows.{fours, owns}
 use Rattle.filling.specs.Next.{Aside, leftOut}
 use Rattle.filling.proofs.Nearby.{aside-none}
 use Rattle.filling.proofs.crowd_of.Statement.{statement}
 use Rattle.filling.proofs.crowd_of.Tie as tie
 
 abbrev Inv-loop : tie.InvT-loop
-Inv-loop labels n offsets entries c quads w₀ m i₀ w i = (m ≡ length quads / 4) × ((i ≤ m) × Aside (λ j. belongs (meshOf [] labels []) (quadsOf quads) c (tetAt labels [] j)) labels (leftOut w))
+Inv-loop labels n offsets entries c quads w₀ m i₀ w i = (m ≡ length quads / 4) × ((i ≤ m) × Aside (owns labels (fours quads) c) labels (leftOut w))
 
 abbrev μ-loop : tie.MeasureT-loop
 μ-loop labels n offsets entries c quads w₀ m i₀ w i = m - i

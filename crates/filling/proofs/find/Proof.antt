@@ -1,23 +1,20 @@
 -- `filling::find` meets its contract. Assumes nothing.
 use mathlib.Core.Path.{_≡_, refl, _∙_}
 use mathlib.Core.Bool.{true}
-use mathlib.Core.List.{[]}
 use Prim.Native.Nat.{_/_, _-_, _≤_, _<_}
 use lib.ListN.{length}
 use native.Mathlib.Omega.{arith}
 use Rattle.base.specs.Lists.{keep}
-use Rattle.space.specs.Arrays.{tetAt, meshOf}
-use Rattle.cells.specs.Cells.{belongs, numbersOf}
-use Rattle.cells.specs.Rows.{quadsOf}
+use Rattle.cells.specs.Rows.{fours, owns, ownNumbers}
 use Rattle.filling.specs.Next.{Reached}
-use Rattle.filling.proofs.Found.{FoundUp, found-take, numbers-from}
+use Rattle.filling.proofs.Found.{FoundUp, found-take}
 use Rattle.filling.proofs.Nearby.{found-gap, reached-start, reached-from}
 use borrow.Author.Needs.{needs}
 use Rattle.filling.proofs.find.Statement.{statement}
 use Rattle.filling.proofs.find.Tie as tie
 
 abbrev Inv-loop : tie.InvT-loop
-Inv-loop labels n offsets entries c quads t w m places₀ found₀ i₀ places found i = (t ≡ length labels / 4) × ((i ≤ t) × ((i < t → belongs (meshOf [] labels []) (quadsOf quads) c (tetAt labels [] i) ≡ true) × (FoundUp (λ j. belongs (meshOf [] labels []) (quadsOf quads) c (tetAt labels [] j)) i found × ((length places ≡ 8) × Reached (λ j. belongs (meshOf [] labels []) (quadsOf quads) c (tetAt labels [] j)) labels c i places))))
+Inv-loop labels n offsets entries c quads t w m places₀ found₀ i₀ places found i = (t ≡ length labels / 4) × ((i ≤ t) × ((i < t → owns labels (fours quads) c i ≡ true) × (FoundUp (owns labels (fours quads) c) i found × ((length places ≡ 8) × Reached (owns labels (fours quads) c) labels c i places))))
 
 abbrev μ-loop : tie.MeasureT-loop
 μ-loop labels n offsets entries c quads t w m places₀ found₀ i₀ places found i = t - i
@@ -72,12 +69,12 @@ loop-again c =
     (refl, (a .0 .le, (a .0 .is, (found-gap (rw (c .before .before .before .before .push .ensures) (found-take (l .1 .0) (l .0 (omega arith)))) (omega arith) (a .0), (search needs, reached-from (a .1) (a .0 .from (omega arith)))))))
 
 returns : tie.Need-returns Inv-loop μ-loop
-unfolding numbersOf
+unfolding ownNumbers
 returns c =
     let s = c .before .before .before .before .before .before .before .before .before .before .before .before .before .before in
     let ls = s .args .labels .now in
     let e : c .before .loop .i ≡ length ls / 4 = omega arith in
-    rw (numbers-from (meshOf [] ls []) (quadsOf (s .args .quads .now)) (s .args .c .now) (tetAt ls []) (length ls / 4) 0) (rw e at (c .before .loop .inv .1 .1 .1 .0 .found))
+    rw e at (c .before .loop .inv .1 .1 .1 .0 .found)
 
 pub find-spec : {M : Type 1} → statement M
 find-spec =

@@ -1,18 +1,15 @@
 -- `filling::least_in` meets its contract. Assumes nothing.
-use mathlib.Core.List.{[]}
 use Prim.Native.Nat.{_-_}
 use lib.ListN.{length}
 use native.Mathlib.Omega.{arith}
-use Rattle.space.specs.Arrays.{tetAt, meshOf}
-use Rattle.cells.specs.Cells.{belongs}
-use Rattle.cells.specs.Rows.{quadsOf}
+use Rattle.cells.specs.Rows.{fours, owns}
 use Rattle.filling.specs.Next.{Passed}
 use Rattle.filling.proofs.Nearby.{passed-next, least-none, least-past, least-hit}
 use Rattle.filling.proofs.least_in.Statement.{statement}
 use Rattle.filling.proofs.least_in.Tie as tie
 
 abbrev Inv-loop : tie.InvT-loop
-Inv-loop labels row from lo hi m c quads at₀ at = Passed (λ j. belongs (meshOf [] labels []) (quadsOf quads) c (tetAt labels [] j)) lo row at
+Inv-loop labels row from lo hi m c quads at₀ at = Passed (owns labels (fours quads) c) lo row at
 
 abbrev μ-loop : tie.MeasureT-loop
 μ-loop labels row from lo hi m c quads at₀ at = length row - at

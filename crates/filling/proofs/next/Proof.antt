@@ -1,20 +1,17 @@
 -- `filling::next` meets its contract. Assumes nothing.
 use mathlib.Core.Path.{_≡_, refl, _∙_, ap}
-use mathlib.Core.List.{[]}
 use Prim.Native.Nat.{_-_, _/_, _≤_}
 use lib.ListN.{length, length-set}
 use native.Mathlib.Omega.{arith}
 use borrow.Author.Needs.{needs}
-use Rattle.space.specs.Arrays.{tetAt, meshOf}
-use Rattle.cells.specs.Cells.{belongs}
-use Rattle.cells.specs.Rows.{quadsOf}
+use Rattle.cells.specs.Rows.{fours, owns}
 use Rattle.filling.specs.Next.{Next, Reached, leftOut}
 use Rattle.filling.proofs.Nearby.{next-start, next-visit, next-done, reached-put}
 use Rattle.filling.proofs.next.Statement.{statement}
 use Rattle.filling.proofs.next.Tie as tie
 
 abbrev Inv-loop : tie.InvT-loop
-Inv-loop labels n offsets entries lo w m places₀ c quads least₀ k₀ places least k = (length places ≡ length places₀) × ((k ≤ length c) × (Next (λ j. belongs (meshOf [] labels []) (quadsOf quads) c (tetAt labels [] j)) labels c lo (length labels / 4) k (leftOut w) least × Reached (λ j. belongs (meshOf [] labels []) (quadsOf quads) c (tetAt labels [] j)) labels c lo places))
+Inv-loop labels n offsets entries lo w m places₀ c quads least₀ k₀ places least k = (length places ≡ length places₀) × ((k ≤ length c) × (Next (owns labels (fours quads) c) labels c lo (length labels / 4) k (leftOut w) least × Reached (owns labels (fours quads) c) labels c lo places))
 
 abbrev μ-loop : tie.MeasureT-loop
 μ-loop labels n offsets entries lo w m places₀ c quads least₀ k₀ places least k = length c - k

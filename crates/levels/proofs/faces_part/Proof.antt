@@ -1,9 +1,8 @@
 -- `levels::faces_part` meets its contract. Assumes nothing.
 use mathlib.Core.Path.{_∙_, ap₂}
-use mathlib.Core.List.{[]}
 use Prim.Native.Nat.{_-_}
 use lib.ListN.{take, drop}
-use Rattle.cells.specs.Rows.{tabled}
+use Rattle.cells.specs.Rows.{threes, fours}
 use Rattle.marks.specs.Marks.{facesNoted}
 use Rattle.levels.specs.Levels.{part}
 use borrow.Author.Needs.{needs}
@@ -53,8 +52,8 @@ returns : tie.Need-returns
 returns c =
     let a = c .before .before .before .before .before .before .before .before .before .before .before .before .args in
     c .faces-noted .ensures
-    ∙ ap₂ (λ f e. facesNoted (a .marks .now) (tabled 0 [] (take (e - f) (drop f (a .rows .now))) (take (c .before .before .before .entry-of4 .result - c .before .before .before .before .entry-of3 .result) (drop (c .before .before .before .before .entry-of3 .result) (a .rows .now))) []) (a .s .now)) (c .before .before .before .before .before .before .entry-of .ensures) (c .before .before .before .before .before .entry-of2 .ensures)
-    ∙ ap₂ (λ f e. facesNoted (a .marks .now) (tabled 0 [] (part (a .rows .now) (a .triangles .now) (a .x)) (take (e - f) (drop f (a .rows .now))) []) (a .s .now)) (c .before .before .before .before .entry-of3 .ensures) (c .before .before .before .entry-of4 .ensures)
+    ∙ ap₂ (λ f e. facesNoted (a .marks .now) (a .s .now) (threes (take (e - f) (drop f (a .rows .now)))) (fours (take (c .before .before .before .entry-of4 .result - c .before .before .before .before .entry-of3 .result) (drop (c .before .before .before .before .entry-of3 .result) (a .rows .now))))) (c .before .before .before .before .before .before .entry-of .ensures) (c .before .before .before .before .before .entry-of2 .ensures)
+    ∙ ap₂ (λ f e. facesNoted (a .marks .now) (a .s .now) (threes (part (a .rows .now) (a .triangles .now) (a .x))) (fours (take (e - f) (drop f (a .rows .now))))) (c .before .before .before .before .entry-of3 .ensures) (c .before .before .before .entry-of4 .ensures)
 
 pub faces-part-spec : {M : Type 1} → statement M
 faces-part-spec =

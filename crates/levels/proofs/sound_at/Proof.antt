@@ -2,7 +2,6 @@
 use mathlib.Core.Path.{_≡_, refl, _∙_, ap}
 use native.Mathlib.Omega.{arith}
 use lib.ListN.{take, drop}
-use Rattle.cells.specs.Cells.{isSound}
 use Rattle.levels.specs.Levels.{triplesAt, levels}
 use Rattle.levels.proofs.Entries.{levels-long, triples-cut, triples-there}
 use borrow.Author.Needs.{needs}
@@ -24,7 +23,6 @@ sound-part-requires c κs =
     (z .pre .1 .0, rw (z .pre .0, triples-there) (triples-cut (z .args .x) (z .pre .1 .1)))
 
 returns : tie.Need-returns
-unfolding isSound
 returns c = let z = c .before .before .before .before in rw (z .pre .0, triples-there) at (c .sound-part .ensures)
 
 pub sound-at-spec : {M : Type 1} → statement M

@@ -1,11 +1,9 @@
 -- `levels::sound_part` meets its contract. Assumes nothing.
 use mathlib.Core.Path.{_∙_, ap₂}
-use mathlib.Core.List.{[]}
 use Prim.Native.Nat.{_-_}
 use lib.ListN.{take, drop}
-use Rattle.space.specs.Arrays.{meshOf}
-use Rattle.cells.specs.Cells.{isSound}
-use Rattle.cells.specs.Rows.{tabled}
+use Rattle.cells.specs.Cells.{boxOf, boxesAbove}
+use Rattle.cells.specs.Rows.{fours, pointsOf}
 use borrow.Author.Needs.{needs}
 use Rattle.levels.proofs.sound_part.Statement.{statement}
 use Rattle.levels.proofs.sound_part.Tie as tie
@@ -35,7 +33,7 @@ returns : tie.Need-returns
 returns c =
     let a = c .before .before .before .before .before .before .before .args in
     c .is-sound .ensures
-    ∙ ap₂ (λ f e. isSound (meshOf (a .coords .now) [] []) (tabled 0 [] [] [] (take (e - f) (drop f (a .rows .now)))) (a .s .now)) (c .before .before .before .entry-of .ensures) (c .before .before .entry-of2 .ensures)
+    ∙ ap₂ (λ f e. boxesAbove (boxOf (pointsOf (a .coords .now))) (a .s .now) (fours (take (e - f) (drop f (a .rows .now))))) (c .before .before .before .entry-of .ensures) (c .before .before .entry-of2 .ensures)
 
 pub sound-part-spec : {M : Type 1} → statement M
 sound-part-spec =

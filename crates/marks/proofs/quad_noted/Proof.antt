@@ -1,5 +1,6 @@
 -- `marks::quad_noted` meets its contract. Assumes nothing.
 use mathlib.Core.Path.{_∙_}
+use Rattle.cells.specs.Cells.{first, second}
 use borrow.Author.Needs.{needs}
 use Rattle.marks.proofs.quad_noted.Statement.{statement}
 use Rattle.marks.proofs.quad_noted.Tie as tie
@@ -23,6 +24,7 @@ split-noted-requires : tie.Need-split-noted-requires
 split-noted-requires c κs = search needs
 
 returns : tie.Need-returns
+unfolding first second
 returns c = c .split-noted .ensures ∙ rw (c .before .corners4 .ensures)
 
 pub quad-noted-spec : {M : Type 1} → statement M

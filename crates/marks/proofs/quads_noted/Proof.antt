@@ -6,14 +6,13 @@ use borrow.Author.Tests.{not-true, not-false}
 use native.Mathlib.Omega.{arith}
 use Rattle.base.proofs.Loop.{AllUp, all-start, all-next, all-fails, all-done}
 use Rattle.space.specs.Arrays.{row4}
-use Rattle.templates.specs.Tables.{at}
-use Rattle.cells.specs.Rows.{row3}
-use Rattle.marks.specs.Marks.{notedSplit}
+use Rattle.cells.specs.Cells.{splits}
+use Rattle.marks.specs.Marks.{notedAt}
 use Rattle.marks.proofs.quads_noted.Statement.{statement}
 use Rattle.marks.proofs.quads_noted.Tie as tie
 
 abbrev Inv-loop : tie.InvT-loop
-Inv-loop marks c rows k i₀ i = (k ≡ length rows / 4) × AllUp (λ f. notedSplit marks (at c f)) (row4 rows) k i
+Inv-loop marks c rows k i₀ i = (k ≡ length rows / 4) × AllUp (splits (notedAt marks c)) (row4 rows) k i
 
 abbrev μ-loop : tie.MeasureT-loop
 μ-loop marks c rows k i₀ i = k - i

@@ -1,10 +1,9 @@
 -- `verdict::is_prism` meets its contract. Assumes nothing.
-use mathlib.Core.Path.{refl}
 use Rattle.base.specs.Lists.{keep, spread}
 use Rattle.templates.specs.Tables.{prism}
 use Rattle.cells.specs.Cells.{inside, corner3}
-use Rattle.filling.specs.Filled.{low}
-use Rattle.verdict.proofs.Solid.{tells-cell, prism-edged}
+use Rattle.verdict.proofs.Solid.{tells-cell}
+use Rattle.verdict.proofs.OfKind.{of-prism}
 use borrow.Author.Needs.{needs}
 use Rattle.verdict.proofs.is_prism.Statement.{statement}
 use Rattle.verdict.proofs.is_prism.Tie as tie
@@ -22,13 +21,12 @@ slice-aggregate-is-solid-4 : tie.Need-slice-aggregate-is-solid-4
 slice-aggregate-is-solid-4 c = search needs
 
 is-solid-requires : tie.Need-is-solid-requires
-unfolding inside corner3 keep spread low
-is-solid-requires c κs = (c .before .before .before .before .before .before .before .before .before .pre, (refl, record { triangles = refl; quads = refl; within = refl }))
+unfolding inside corner3 keep spread
+is-solid-requires c κs = (c .before .before .before .before .before .before .before .before .before .pre, of-prism .lettered)
 
 returns : tie.Need-returns
-returns c =
-    let s = c .before .before .before .before .before .before .before .before .before .before in
-    tells-cell (s .args .coords .now) (s .args .labels .now) (s .args .parts .now) prism (s .args .c .now) prism-edged (c .is-solid .ensures)
+unfolding inside corner3 keep spread
+returns c = tells-cell (of-prism .edged) (c .is-solid .ensures prism (of-prism .tables))
 
 pub is-prism-spec : {M : Type 1} → statement M
 is-prism-spec =

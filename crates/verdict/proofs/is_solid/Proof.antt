@@ -1,14 +1,12 @@
 -- `verdict::is_solid` meets its contract. Assumes nothing.
-use mathlib.Core.Path.{refl, _∙_, ap}
-use mathlib.Core.List.{[]}
+use mathlib.Core.Path.{_∙_, ap}
 use lib.Dec.{eqb}
 use Rattle.base.proofs.Bools.{first-fails, second-fails, third-decides}
 use Rattle.space.specs.Arrays.{meshOf}
 use Rattle.cells.specs.Cells.{isFilled, isOnePart}
-use Rattle.cells.specs.Rows.{tabled, quadsOf}
 use Rattle.verdict.specs.Judged.{isSolid}
-use Rattle.verdict.proofs.Bare.{tuple-is, sound-is, last-is}
-use Rattle.verdict.proofs.Numbers.{found-same}
+use Rattle.verdict.proofs.Tables.{tuple-is, sound-is, numbers-is, last-is}
+use Rattle.verdict.proofs.Numbers.{found-as}
 use Rattle.verdict.proofs.Solid.{last-two, tells-no}
 use borrow.Author.Needs.{needs}
 use Rattle.verdict.proofs.is_solid.Statement.{statement}
@@ -22,9 +20,9 @@ no-requires c κs = search needs
 
 returns : tie.Need-returns
 unfolding isSolid
-returns c =
+returns c = λ t w.
     let s = c .before .before .before .before .before .before .before .before .before .before .before .before in
-    tells-no (c .no .ensures) (first-fails (c .before .before .is-tuple .ensures ∙ tuple-is (s .args .coords .now) (s .args .labels .now) (s .args .parts .now) (s .args .corners) [] (s .args .triangles .now) (s .args .quads .now) (s .args .triples .now) (s .args .c .now)) (c .before .if1 .taken) _ _)
+    tells-no (c .no .ensures) (first-fails (c .before .before .is-tuple .ensures ∙ tuple-is (s .args .coords .now) (s .args .labels .now) (s .args .parts .now) (s .args .c .now) w) (c .before .if1 .taken) _ _)
 
 is-sound-requires : tie.Need-is-sound-requires
 is-sound-requires c κs = search needs
@@ -34,11 +32,11 @@ no-requires-2 c κs = search needs
 
 returns-2 : tie.Need-returns-2
 unfolding isSolid
-returns-2 c =
+returns-2 c = λ t w.
     let s = c .before .before .before .before .before .before .before .before .before .before .before .before .before .before in
     tells-no (c .no2 .ensures)
-    (second-fails (c .before .before .before .before .is-tuple .ensures ∙ tuple-is (s .args .coords .now) (s .args .labels .now) (s .args .parts .now) (s .args .corners) [] (s .args .triangles .now) (s .args .quads .now) (s .args .triples .now) (s .args .c .now)) (c .before .before .before .if1 .left)
-    (c .before .before .is-sound .ensures ∙ sound-is (s .args .coords .now) (s .args .labels .now) (s .args .parts .now) (s .args .corners) [] (s .args .triangles .now) (s .args .quads .now) (s .args .triples .now) (s .args .c .now)) (c .before .if2 .taken) _)
+    (second-fails (c .before .before .before .before .is-tuple .ensures ∙ tuple-is (s .args .coords .now) (s .args .labels .now) (s .args .parts .now) (s .args .c .now) w) (c .before .before .before .if1 .left)
+    (c .before .before .is-sound .ensures ∙ sound-is (s .args .coords .now) (s .args .labels .now) (s .args .parts .now) (s .args .c .now) w) (c .before .if2 .taken) _)
 
 find-requires : tie.Need-find-requires
 find-requires c κs = search needs
@@ -48,16 +46,15 @@ judge-found-requires c κs = (c .find .ensures, (search needs, search needs))
 
 returns-3 : tie.Need-returns-3
 unfolding isSolid
-returns-3 c =
+returns-3 c = λ t w.
     let s = c .before .before .before .before .before .before .before .before .before .before .before .before .before .before .before in
     let m = meshOf (s .args .coords .now) (s .args .labels .now) (s .args .parts .now) in
-    let t = tabled (s .args .corners) [] (s .args .triangles .now) (s .args .quads .now) (s .args .triples .now) in
     record {
       is =
-          third-decides (c .before .before .before .before .before .is-tuple .ensures ∙ tuple-is (s .args .coords .now) (s .args .labels .now) (s .args .parts .now) (s .args .corners) [] (s .args .triangles .now) (s .args .quads .now) (s .args .triples .now) (s .args .c .now)) (c .before .before .before .before .if1 .left)
-          (c .before .before .before .is-sound .ensures ∙ sound-is (s .args .coords .now) (s .args .labels .now) (s .args .parts .now) (s .args .corners) [] (s .args .triangles .now) (s .args .quads .now) (s .args .triples .now) (s .args .c .now)) (c .before .before .if2 .left)
-          (ap (λ v. eqb v 0) (c .judge-found .ensures ∙ last-is (s .args .coords .now) (s .args .labels .now) (s .args .parts .now) (s .args .corners) [] (s .args .triangles .now) (s .args .quads .now) (s .args .triples .now) (s .args .c .now) (s .args .within .now) (s .pre .1 .0)) ∙ last-two (isFilled m t (s .args .c .now)) (isOnePart m t (s .args .c .now)));
-      tets = λ y. found-same (s .args .coords .now) (s .args .labels .now) (s .args .parts .now) (s .args .c .now) (quadsOf (s .args .quads .now)) t refl (c .before .find .ensures);
+          third-decides (c .before .before .before .before .before .is-tuple .ensures ∙ tuple-is (s .args .coords .now) (s .args .labels .now) (s .args .parts .now) (s .args .c .now) w) (c .before .before .before .before .if1 .left)
+          (c .before .before .before .is-sound .ensures ∙ sound-is (s .args .coords .now) (s .args .labels .now) (s .args .parts .now) (s .args .c .now) w) (c .before .before .if2 .left)
+          (ap (λ v. eqb v 0) (c .judge-found .ensures ∙ last-is (s .args .coords .now) (s .args .labels .now) (s .args .parts .now) (s .args .c .now) w) ∙ last-two (isFilled m t (s .args .c .now)) (isOnePart m t (s .args .c .now)));
+      tets = λ y. found-as (numbers-is (s .args .coords .now) (s .args .labels .now) (s .args .parts .now) (s .args .c .now) w) (c .before .find .ensures);
     }
 
 pub is-solid-spec : {M : Type 1} → statement M

@@ -2,7 +2,7 @@
 use mathlib.Core.Path.{sym, _∙_}
 use borrow.Author.Tests.{not-true, not-false}
 use Rattle.cells.specs.Cells.{firstFailing}
-use Rattle.verdict.proofs.Bare.{tuple-is, edges-is, faces-is, sound-is, last-is}
+use Rattle.verdict.proofs.Tables.{tuple-is, edges-is, faces-is, sound-is, last-is}
 use borrow.Author.Needs.{needs}
 use Rattle.verdict.proofs.judge_by.Statement.{statement}
 use Rattle.verdict.proofs.judge_by.Tie as tie
@@ -12,22 +12,22 @@ is-tuple-requires c κs = search needs
 
 returns : tie.Need-returns
 unfolding firstFailing
-returns c =
+returns c = λ t w e.
     let s = c .before .before .before .before .before .before .before .before .before .before .before .before in
     sym
-    (rw (sym (c .before .is-tuple .ensures ∙ tuple-is (s .args .coords .now) (s .args .labels .now) (s .args .parts .now) (s .args .corners) (s .args .edges .now) (s .args .triangles .now) (s .args .quads .now) (s .args .triples .now) (s .args .c .now)) ∙ not-true _ (c .if1 .taken)))
+    (rw (sym (c .before .is-tuple .ensures ∙ tuple-is (s .args .coords .now) (s .args .labels .now) (s .args .parts .now) (s .args .c .now) w) ∙ not-true _ (c .if1 .taken)))
 
 has-edges-requires : tie.Need-has-edges-requires
 has-edges-requires c κs = search needs
 
 returns-2 : tie.Need-returns-2
 unfolding firstFailing
-returns-2 c =
+returns-2 c = λ t w e.
     let s = c .before .before .before .before .before .before .before .before .before .before .before .before .before .before in
     sym
     (rw (
-      sym (c .before .before .before .is-tuple .ensures ∙ tuple-is (s .args .coords .now) (s .args .labels .now) (s .args .parts .now) (s .args .corners) (s .args .edges .now) (s .args .triangles .now) (s .args .quads .now) (s .args .triples .now) (s .args .c .now)) ∙ not-false _ (c .before .before .if1 .left),
-      sym (c .before .has-edges .ensures ∙ edges-is (s .args .coords .now) (s .args .labels .now) (s .args .parts .now) (s .args .corners) (s .args .edges .now) (s .args .triangles .now) (s .args .quads .now) (s .args .triples .now) (s .args .c .now)) ∙ not-true _ (c .if2 .taken),
+      sym (c .before .before .before .is-tuple .ensures ∙ tuple-is (s .args .coords .now) (s .args .labels .now) (s .args .parts .now) (s .args .c .now) w) ∙ not-false _ (c .before .before .if1 .left),
+      sym (c .before .has-edges .ensures ∙ edges-is (s .args .coords .now) (s .args .labels .now) (s .args .parts .now) (s .args .c .now) w e) ∙ not-true _ (c .if2 .taken),
     ))
 
 has-faces-requires : tie.Need-has-faces-requires
@@ -35,13 +35,13 @@ has-faces-requires c κs = search needs
 
 returns-3 : tie.Need-returns-3
 unfolding firstFailing
-returns-3 c =
+returns-3 c = λ t w e.
     let s = c .before .before .before .before .before .before .before .before .before .before .before .before .before .before .before .before in
     sym
     (rw (
-      sym (c .before .before .before .before .before .is-tuple .ensures ∙ tuple-is (s .args .coords .now) (s .args .labels .now) (s .args .parts .now) (s .args .corners) (s .args .edges .now) (s .args .triangles .now) (s .args .quads .now) (s .args .triples .now) (s .args .c .now)) ∙ not-false _ (c .before .before .before .before .if1 .left),
-      sym (c .before .before .before .has-edges .ensures ∙ edges-is (s .args .coords .now) (s .args .labels .now) (s .args .parts .now) (s .args .corners) (s .args .edges .now) (s .args .triangles .now) (s .args .quads .now) (s .args .triples .now) (s .args .c .now)) ∙ not-false _ (c .before .before .if2 .left),
-      sym (c .before .has-faces .ensures ∙ faces-is (s .args .coords .now) (s .args .labels .now) (s .args .parts .now) (s .args .corners) (s .args .edges .now) (s .args .triangles .now) (s .args .quads .now) (s .args .triples .now) (s .args .c .now)) ∙ not-true _ (c .if3 .taken),
+      sym (c .before .before .before .before .before .is-tuple .ensures ∙ tuple-is (s .args .coords .now) (s .args .labels .now) (s .args .parts .now) (s .args .c .now) w) ∙ not-false _ (c .before .before .before .before .if1 .left),
+      sym (c .before .before .before .has-edges .ensures ∙ edges-is (s .args .coords .now) (s .args .labels .now) (s .args .parts .now) (s .args .c .now) w e) ∙ not-false _ (c .before .before .if2 .left),
+      sym (c .before .has-faces .ensures ∙ faces-is (s .args .coords .now) (s .args .labels .now) (s .args .parts .now) (s .args .c .now) w) ∙ not-true _ (c .if3 .taken),
     ))
 
 is-sound-requires : tie.Need-is-sound-requires
@@ -49,14 +49,14 @@ is-sound-requires c κs = search needs
 
 returns-4 : tie.Need-returns-4
 unfolding firstFailing
-returns-4 c =
+returns-4 c = λ t w e.
     let s = c .before .before .before .before .before .before .before .before .before .before .before .before .before .before .before .before .before .before in
     sym
     (rw (
-      sym (c .before .before .before .before .before .before .before .is-tuple .ensures ∙ tuple-is (s .args .coords .now) (s .args .labels .now) (s .args .parts .now) (s .args .corners) (s .args .edges .now) (s .args .triangles .now) (s .args .quads .now) (s .args .triples .now) (s .args .c .now)) ∙ not-false _ (c .before .before .before .before .before .before .if1 .left),
-      sym (c .before .before .before .before .before .has-edges .ensures ∙ edges-is (s .args .coords .now) (s .args .labels .now) (s .args .parts .now) (s .args .corners) (s .args .edges .now) (s .args .triangles .now) (s .args .quads .now) (s .args .triples .now) (s .args .c .now)) ∙ not-false _ (c .before .before .before .before .if2 .left),
-      sym (c .before .before .before .has-faces .ensures ∙ faces-is (s .args .coords .now) (s .args .labels .now) (s .args .parts .now) (s .args .corners) (s .args .edges .now) (s .args .triangles .now) (s .args .quads .now) (s .args .triples .now) (s .args .c .now)) ∙ not-false _ (c .before .before .if3 .left),
-      sym (c .before .is-sound .ensures ∙ sound-is (s .args .coords .now) (s .args .labels .now) (s .args .parts .now) (s .args .corners) (s .args .edges .now) (s .args .triangles .now) (s .args .quads .now) (s .args .triples .now) (s .args .c .now)) ∙ not-true _ (c .if4 .taken),
+      sym (c .before .before .before .before .before .before .before .is-tuple .ensures ∙ tuple-is (s .args .coords .now) (s .args .labels .now) (s .args .parts .now) (s .args .c .now) w) ∙ not-false _ (c .before .before .before .before .before .before .if1 .left),
+      sym (c .before .before .before .before .before .has-edges .ensures ∙ edges-is (s .args .coords .now) (s .args .labels .now) (s .args .parts .now) (s .args .c .now) w e) ∙ not-false _ (c .before .before .before .before .if2 .left),
+      sym (c .before .before .before .has-faces .ensures ∙ faces-is (s .args .coords .now) (s .args .labels .now) (s .args .parts .now) (s .args .c .now) w) ∙ not-false _ (c .before .before .if3 .left),
+      sym (c .before .is-sound .ensures ∙ sound-is (s .args .coords .now) (s .args .labels .now) (s .args .parts .now) (s .args .c .now) w) ∙ not-true _ (c .if4 .taken),
     ))
 
 judge-tets-requires : tie.Need-judge-tets-requires
@@ -64,15 +64,15 @@ judge-tets-requires c κs = search needs
 
 returns-5 : tie.Need-returns-5
 unfolding firstFailing
-returns-5 c =
+returns-5 c = λ t w e.
     let s = c .before .before .before .before .before .before .before .before .before .before .before .before .before .before .before .before .before .before .before in
-    c .judge-tets .ensures ∙ last-is (s .args .coords .now) (s .args .labels .now) (s .args .parts .now) (s .args .corners) (s .args .edges .now) (s .args .triangles .now) (s .args .quads .now) (s .args .triples .now) (s .args .c .now) (s .args .within .now) (s .pre .1 .0) ∙
+    c .judge-tets .ensures ∙ last-is (s .args .coords .now) (s .args .labels .now) (s .args .parts .now) (s .args .c .now) w ∙
     sym
     (rw (
-      sym (c .before .before .before .before .before .before .before .before .is-tuple .ensures ∙ tuple-is (s .args .coords .now) (s .args .labels .now) (s .args .parts .now) (s .args .corners) (s .args .edges .now) (s .args .triangles .now) (s .args .quads .now) (s .args .triples .now) (s .args .c .now)) ∙ not-false _ (c .before .before .before .before .before .before .before .if1 .left),
-      sym (c .before .before .before .before .before .before .has-edges .ensures ∙ edges-is (s .args .coords .now) (s .args .labels .now) (s .args .parts .now) (s .args .corners) (s .args .edges .now) (s .args .triangles .now) (s .args .quads .now) (s .args .triples .now) (s .args .c .now)) ∙ not-false _ (c .before .before .before .before .before .if2 .left),
-      sym (c .before .before .before .before .has-faces .ensures ∙ faces-is (s .args .coords .now) (s .args .labels .now) (s .args .parts .now) (s .args .corners) (s .args .edges .now) (s .args .triangles .now) (s .args .quads .now) (s .args .triples .now) (s .args .c .now)) ∙ not-false _ (c .before .before .before .if3 .left),
-      sym (c .before .before .is-sound .ensures ∙ sound-is (s .args .coords .now) (s .args .labels .now) (s .args .parts .now) (s .args .corners) (s .args .edges .now) (s .args .triangles .now) (s .args .quads .now) (s .args .triples .now) (s .args .c .now)) ∙ not-false _ (c .before .if4 .left),
+      sym (c .before .before .before .before .before .before .before .before .is-tuple .ensures ∙ tuple-is (s .args .coords .now) (s .args .labels .now) (s .args .parts .now) (s .args .c .now) w) ∙ not-false _ (c .before .before .before .before .before .before .before .if1 .left),
+      sym (c .before .before .before .before .before .before .has-edges .ensures ∙ edges-is (s .args .coords .now) (s .args .labels .now) (s .args .parts .now) (s .args .c .now) w e) ∙ not-false _ (c .before .before .before .before .before .if2 .left),
+      sym (c .before .before .before .before .has-faces .ensures ∙ faces-is (s .args .coords .now) (s .args .labels .now) (s .args .parts .now) (s .args .c .now) w) ∙ not-false _ (c .before .before .before .if3 .left),
+      sym (c .before .before .is-sound .ensures ∙ sound-is (s .args .coords .now) (s .args .labels .now) (s .args .parts .now) (s .args .c .now) w) ∙ not-false _ (c .before .if4 .left),
     ))
 
 pub judge-by-spec : {M : Type 1} → statement M

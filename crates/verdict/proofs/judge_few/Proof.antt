@@ -1,9 +1,11 @@
 -- `verdict::judge_few` meets its contract. Assumes nothing.
-use mathlib.Core.Path.{sym, _∙_}
+use mathlib.Core.Path.{sym, _∙_, ap}
 use lib.ListN.{replicate, length-take}
 use lib.Seq.{length-take-le}
 use native.Mathlib.Omega.{arith}
-use Rattle.verdict.proofs.Numbers.{found-all, found-long, listed-within, last-are, room-is}
+use Rattle.cells.specs.Rows.{fours}
+use Rattle.verdict.specs.Judged.{lastWith}
+use Rattle.verdict.proofs.Numbers.{found-all, found-long, listed-within, room-is}
 use borrow.Author.Needs.{needs}
 use Rattle.verdict.proofs.judge_few.Statement.{statement}
 use Rattle.verdict.proofs.judge_few.Tie as tie
@@ -27,14 +29,14 @@ judge-list-requires : tie.Need-judge-list-requires
 judge-list-requires c κs =
     let s = c .before .before .before .before .before .before .before .before .before in
     let l = found-long (s .pre .0 .0) (s .pre .0 .1 .0) in (
-      listed-within (s .args .labels .now) (s .args .parts .now) (s .args .quads .now) (s .args .c .now) (found-all (s .pre .0 .0) (s .pre .0 .1 .0)) (s .pre .0 .1 .1),
+      listed-within (s .args .labels .now) (s .args .parts .now) (fours (s .args .quads .now)) (s .args .c .now) (found-all (s .pre .0 .0) (s .pre .0 .1 .0)) (s .pre .0 .1 .1),
       (room-is (s .args .found .count) (replicate 200 0) (s .args .found .list) (search needs) (omega arith), s .pre .1),
     )
 
 returns : tie.Need-returns
 returns c =
     let s = c .before .before .before .before .before .before .before .before .before .before .before in
-    c .before .judge-list .ensures ∙ last-are (s .args .labels .now) (s .args .parts .now) (s .args .quads .now) (s .args .c .now) (s .args .triangles .now) (s .args .within .now) _ (found-all (s .pre .0 .0) (s .pre .0 .1 .0))
+    c .before .judge-list .ensures ∙ ap (λ xs. lastWith (s .args .labels .now) (s .args .parts .now) xs (s .args .c .now) (s .args .triangles .now) (s .args .quads .now) (s .args .within .now)) (found-all (s .pre .0 .0) (s .pre .0 .1 .0))
 
 pub judge-few-spec : {M : Type 1} → statement M
 judge-few-spec =

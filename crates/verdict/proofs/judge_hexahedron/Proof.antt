@@ -1,11 +1,8 @@
 -- `verdict::judge_hexahedron` meets its contract. Assumes nothing.
-use mathlib.Core.Path.{refl, _∙_}
 use Rattle.base.specs.Lists.{keep, spread}
-use Rattle.space.specs.Arrays.{meshOf}
 use Rattle.templates.specs.Tables.{hexahedron}
 use Rattle.cells.specs.Cells.{inside, corner3}
-use Rattle.filling.specs.Filled.{low}
-use Rattle.verdict.proofs.Bare.{plain-is}
+use Rattle.verdict.proofs.OfKind.{of-hexahedron}
 use borrow.Author.Needs.{needs}
 use Rattle.verdict.proofs.judge_hexahedron.Statement.{statement}
 use Rattle.verdict.proofs.judge_hexahedron.Tie as tie
@@ -26,13 +23,12 @@ slice-aggregate-judge-by-5 : tie.Need-slice-aggregate-judge-by-5
 slice-aggregate-judge-by-5 c = search needs
 
 judge-by-requires : tie.Need-judge-by-requires
-unfolding inside corner3 keep spread low
-judge-by-requires c κs = (c .before .before .before .before .before .before .before .before .before .before .pre, (refl, record { triangles = refl; quads = refl; within = refl }))
+unfolding inside corner3 keep spread
+judge-by-requires c κs = (c .before .before .before .before .before .before .before .before .before .before .pre, of-hexahedron .lettered)
 
 returns : tie.Need-returns
-returns c =
-    let s = c .before .before .before .before .before .before .before .before .before .before .before in
-    c .judge-by .ensures ∙ plain-is (meshOf (s .args .coords .now) (s .args .labels .now) (s .args .parts .now)) hexahedron (s .args .c .now)
+unfolding inside corner3 keep spread
+returns c = c .judge-by .ensures hexahedron (of-hexahedron .tables) (of-hexahedron .edges)
 
 pub judge-hexahedron-spec : {M : Type 1} → statement M
 judge-hexahedron-spec =

@@ -1,20 +1,18 @@
 -- `verdict::judge_many` meets its contract. Assumes nothing.
-use mathlib.Core.Path.{_≡_, refl, sym, _∙_}
-use mathlib.Core.List.{[]}
+use mathlib.Core.Path.{_≡_, refl, sym, _∙_, ap}
 use mathlib.Core.Logic.{⊎-elim}
 use Prim.Native.Nat.{_/_, _-_, _≤_}
 use lib.ListN.{length, replicate, length-take}
 use lib.Seq.{length-take-le}
 use native.Mathlib.Omega.{arith}
-use Rattle.space.specs.Arrays.{tetAt, meshOf}
-use Rattle.cells.specs.Cells.{belongs}
-use Rattle.cells.specs.Rows.{quadsOf}
-use Rattle.verdict.proofs.Numbers.{Gathered, gather-start, gather-take, gather-skip, gathered-all, listed-within, last-are, room-is}
+use Rattle.cells.specs.Rows.{fours, owns}
+use Rattle.verdict.specs.Judged.{lastWith}
+use Rattle.verdict.proofs.Numbers.{Gathered, gather-start, gather-take, gather-skip, gathered-all, listed-within, room-is}
 use Rattle.verdict.proofs.judge_many.Statement.{statement}
 use Rattle.verdict.proofs.judge_many.Tie as tie
 
 abbrev Inv-loop : tie.InvT-loop
-Inv-loop labels parts c triangles quads within t list₀ k₀ i₀ list k i = (t ≡ length labels / 4) × ((i ≤ t) × Gathered (λ j. belongs (meshOf [] labels []) (quadsOf quads) c (tetAt labels [] j)) i list k)
+Inv-loop labels parts c triangles quads within t list₀ k₀ i₀ list k i = (t ≡ length labels / 4) × ((i ≤ t) × Gathered (owns labels (fours quads) c) i list k)
 
 abbrev μ-loop : tie.MeasureT-loop
 μ-loop labels parts c triangles quads within t list₀ k₀ i₀ list k i = t - i
@@ -73,16 +71,16 @@ slice-aggregate-judge-list-2 c = sym (length-take-le _ _ (omega arith))
 judge-list-requires : tie.Need-judge-list-requires Inv-loop μ-loop
 judge-list-requires c κs =
     let s = c .before .before .before .before .before .before .before .before .before .before in (
-      listed-within (s .args .labels .now) (s .args .parts .now) (s .args .quads .now) (s .args .c .now)
-          (gathered-all (s .args .labels .now) (s .args .quads .now) (s .args .c .now) (c .before .before .before .loop .inv .1 .1) (omega arith)) (s .pre .0 .1),
+      listed-within (s .args .labels .now) (s .args .parts .now) (fours (s .args .quads .now)) (s .args .c .now)
+          (gathered-all (s .args .labels .now) (fours (s .args .quads .now)) (s .args .c .now) (c .before .before .before .loop .inv .1 .1) (omega arith)) (s .pre .0 .1),
       (room-is (c .before .before .before .loop .k) (replicate 16384 0) (c .before .before .before .loop .list) (omega arith) (omega arith), s .pre .1),
     )
 
 returns : tie.Need-returns Inv-loop μ-loop
 returns c =
     let s = c .before .before .before .before .before .before .before .before .before .before .before .before in
-    let e = gathered-all (s .args .labels .now) (s .args .quads .now) (s .args .c .now) (c .before .before .before .before .before .loop .inv .1 .1) (omega arith) in
-    c .before .judge-list .ensures ∙ last-are (s .args .labels .now) (s .args .parts .now) (s .args .quads .now) (s .args .c .now) (s .args .triangles .now) (s .args .within .now) _ e
+    let e = gathered-all (s .args .labels .now) (fours (s .args .quads .now)) (s .args .c .now) (c .before .before .before .before .before .loop .inv .1 .1) (omega arith) in
+    c .before .judge-list .ensures ∙ ap (λ xs. lastWith (s .args .labels .now) (s .args .parts .now) xs (s .args .c .now) (s .args .triangles .now) (s .args .quads .now) (s .args .within .now)) e
 
 pub judge-many-spec : {M : Type 1} → statement M
 judge-many-spec =

@@ -1,11 +1,8 @@
 -- `verdict::judge_pyramid` meets its contract. Assumes nothing.
-use mathlib.Core.Path.{refl, _∙_}
 use Rattle.base.specs.Lists.{keep, spread}
-use Rattle.space.specs.Arrays.{meshOf}
 use Rattle.templates.specs.Tables.{pyramid}
 use Rattle.cells.specs.Cells.{inside, corner3}
-use Rattle.filling.specs.Filled.{low}
-use Rattle.verdict.proofs.Bare.{plain-is}
+use Rattle.verdict.proofs.OfKind.{of-pyramid}
 use borrow.Author.Needs.{needs}
 use Rattle.verdict.proofs.judge_pyramid.Statement.{statement}
 use Rattle.verdict.proofs.judge_pyramid.Tie as tie
@@ -26,13 +23,12 @@ slice-aggregate-judge-by-5 : tie.Need-slice-aggregate-judge-by-5
 slice-aggregate-judge-by-5 c = search needs
 
 judge-by-requires : tie.Need-judge-by-requires
-unfolding inside corner3 keep spread low
-judge-by-requires c κs = (c .before .before .before .before .before .before .before .before .before .before .pre, (refl, record { triangles = refl; quads = refl; within = refl }))
+unfolding inside corner3 keep spread
+judge-by-requires c κs = (c .before .before .before .before .before .before .before .before .before .before .pre, of-pyramid .lettered)
 
 returns : tie.Need-returns
-returns c =
-    let s = c .before .before .before .before .before .before .before .before .before .before .before in
-    c .judge-by .ensures ∙ plain-is (meshOf (s .args .coords .now) (s .args .labels .now) (s .args .parts .now)) pyramid (s .args .c .now)
+unfolding inside corner3 keep spread
+returns c = c .judge-by .ensures pyramid (of-pyramid .tables) (of-pyramid .edges)
 
 pub judge-pyramid-spec : {M : Type 1} → statement M
 judge-pyramid-spec =
