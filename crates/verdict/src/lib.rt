@@ -13,6 +13,9 @@ ghost use Rattle.cells.specs.Rows.{threes, fours, tabled, quadsOf};
 ghost use Rattle.filling.specs.Found.{Found};
 ghost use Rattle.filling.specs.Filled.{sidesIn, Lettered, fills, onePart};
 ghost use Rattle.verdict.specs.Judged.{Arrays, lastOf, lastFailing, isSolid, Tells};
+
+mod leaf;
+
 use cells::has_edges;
 use cells::has_faces;
 use cells::is_sound;
@@ -22,6 +25,7 @@ use filling::belongs_to;
 use filling::find;
 use filling::is_filled;
 use filling::is_one_part;
+pub use leaf::is_leaf;
 use space::Tet;
 use templates::HEX_EDGES;
 use templates::HEX_INSIDE;

@@ -11,7 +11,7 @@ first-after-requires c κs = search needs
 sees-requires : tie.Need-sees-requires
 sees-requires c κs =
     let s = c .before .before .before .before .before .before .before .before .before .before in
-    (s .pre .0, record { close = s .pre .1 .0 .close; parts = s .pre .1 .1; indexed = s .pre .1 .0 .indexed })
+    record { close = s .pre .1 .0 .close; parts = s .pre .1 .1; indexed = s .pre .1 .0 .indexed }
 
 returns : tie.Need-returns
 returns c = seen-remains _ (c .before .before .before .before .before .before .before .before .before .before .before .before .args .mark) (c .before .sees .ensures (c .if2 .taken)) (omega (arith, c .before .before .if1 .taken)) (c .before .before .before .before .first-after .ensures)
