@@ -304,7 +304,7 @@ fn is_any_left(
 {
     let lo = first_after(mark);
     if 5 <= mark.kind {
-        if sees(tables, coords, labels, parts, n, offsets, entries, lo) {
+        if sees(coords, labels, parts, n, offsets, entries, lo) {
             return true;
         }
     }

@@ -14,6 +14,9 @@ ghost use Rattle.cells.specs.Rows.{fours, ownNumbers};
 ghost use Rattle.filling.specs.Found.{Found};
 ghost use Rattle.counting.specs.Noted.{Lettered};
 ghost use Rattle.verdict.specs.Judged.{TablesOf, lastWith, lastFailing, isSolid, Tells};
+
+mod leaf;
+
 use cells::has_edges;
 use cells::has_faces;
 use cells::is_sound;
@@ -23,6 +26,7 @@ use counting::is_one_part;
 use filling::Tets;
 use filling::belongs_to;
 use filling::find;
+pub use leaf::is_leaf;
 use space::Tet;
 use templates::HEX_EDGES;
 use templates::HEX_INSIDE;

@@ -3,11 +3,6 @@ use Rattle.around.proofs.Around.{slice-within}
 use borrow.Author.Needs.{needs}
 use Rattle.glance.proofs.is_at.Statement.{statement}
 use Rattle.glance.proofs.is_at.Tie as tie
-use Rattle.glance.proofs.is_at.Reads as reads
-use Rattle.glance.proofs.is_at.Lts as lts
-use Rattle.around.proofs.rarest.Reads as rarest-reads
-use Rattle.around.proofs.row_of.Reads as row-of-reads
-use Rattle.glance.proofs.is_in.Reads as is-in-reads
 
 cast-at : tie.Need-cast-at
 cast-at c = search needs
@@ -15,29 +10,29 @@ cast-at c = search needs
 mul-at : tie.Need-mul-at
 mul-at c = search needs
 
-mul-t18 : tie.Need-mul-t18
-mul-t18 c = search needs
+mul-t17 : tie.Need-mul-t17
+mul-t17 c = search needs
 
-shared-slice-read-t20 : tie.Need-shared-slice-read-t20
-shared-slice-read-t20 c = search needs
+shared-slice-read-t19 : tie.Need-shared-slice-read-t19
+shared-slice-read-t19 c = search needs
 
-add-t18 : tie.Need-add-t18
-add-t18 c = search needs
+add-t17 : tie.Need-add-t17
+add-t17 c = search needs
 
-mul-t21 : tie.Need-mul-t21
-mul-t21 c = search needs
+mul-t20 : tie.Need-mul-t20
+mul-t20 c = search needs
 
-shared-slice-read-t20-2 : tie.Need-shared-slice-read-t20-2
-shared-slice-read-t20-2 c = search needs
+shared-slice-read-t19-2 : tie.Need-shared-slice-read-t19-2
+shared-slice-read-t19-2 c = search needs
 
-add-t18-2 : tie.Need-add-t18-2
-add-t18-2 c = search needs
+add-t17-2 : tie.Need-add-t17-2
+add-t17-2 c = search needs
 
-mul-t21-2 : tie.Need-mul-t21-2
-mul-t21-2 c = search needs
+mul-t20-2 : tie.Need-mul-t20-2
+mul-t20-2 c = search needs
 
-shared-slice-read-t20-3 : tie.Need-shared-slice-read-t20-3
-shared-slice-read-t20-3 c = search needs
+shared-slice-read-t19-3 : tie.Need-shared-slice-read-t19-3
+shared-slice-read-t19-3 c = search needs
 
 rarest-requires : tie.Need-rarest-requires
 rarest-requires c κs = search needs
@@ -62,8 +57,8 @@ part-is-in-end c = search needs
 
 is-in-requires : tie.Need-is-in-requires
 is-in-requires c κs =
-    let s = c .before .before .before .before .before .before .before .before .before .before .before .before .before in
-    (s .pre .0, (s .pre .1 .0, (s .pre .1 .1, slice-within (c .before .before .row-of .ensures))))
+    let s = c .before .before .before .before .before .before .before .before .before .before .before .before in
+    (s .pre .0, (s .pre .1, slice-within (c .before .before .row-of .ensures)))
 
 returns : tie.Need-returns
 returns c = search needs
@@ -74,14 +69,14 @@ is-at-spec =
     (tie.spec
     cast-at
     mul-at
-    mul-t18
-    shared-slice-read-t20
-    add-t18
-    mul-t21
-    shared-slice-read-t20-2
-    add-t18-2
-    mul-t21-2
-    shared-slice-read-t20-3
+    mul-t17
+    shared-slice-read-t19
+    add-t17
+    mul-t20
+    shared-slice-read-t19-2
+    add-t17-2
+    mul-t20-2
+    shared-slice-read-t19-3
     rarest-requires
     row-of-requires
     add-end

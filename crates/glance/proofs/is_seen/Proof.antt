@@ -5,9 +5,6 @@ use native.Mathlib.Omega.{arith}
 use borrow.Author.Needs.{needs}
 use Rattle.glance.proofs.is_seen.Statement.{statement}
 use Rattle.glance.proofs.is_seen.Tie as tie
-use Rattle.glance.proofs.is_seen.Reads as reads
-use Rattle.glance.proofs.is_seen.Lts as lts
-use Rattle.search.proofs.is_leaf.Reads as is-leaf-reads
 
 array-read-if1 : tie.Need-array-read-if1
 array-read-if1 c = search needs
@@ -22,7 +19,7 @@ is-leaf-requires : tie.Need-is-leaf-requires
 is-leaf-requires c κs = search needs
 
 returns-2 : tie.Need-returns-2
-returns-2 c y = record { tuple = c .before .before .before .before .before .before .before .args .t9; leaf = sym (c .is-leaf .ensures .0) ∙ y; first = omega (arith, c .before .if1 .left) }
+returns-2 c y = record { tuple = c .before .before .before .before .before .before .args .t8; leaf = sym (c .is-leaf .ensures .0) ∙ y; first = omega (arith, c .before .if1 .left) }
 
 pub is-seen-spec : {M : Type 1} → statement M
 is-seen-spec = tie.close (tie.spec array-read-if1 cast-if1 returns is-leaf-requires returns-2)

@@ -9,22 +9,22 @@ use Rattle.glance.proofs.sees.Tie as tie
 returns : tie.Need-returns
 returns c y = absurd (true≢false (sym y))
 
-sub-t11 : tie.Need-sub-t11
-sub-t11 c = search needs
+sub-t10 : tie.Need-sub-t10
+sub-t10 c = search needs
 
-cast-t13 : tie.Need-cast-t13
-cast-t13 c = search needs
+cast-t12 : tie.Need-cast-t12
+cast-t12 c = search needs
 
 is-at-requires : tie.Need-is-at-requires
-is-at-requires c κs = let s = c .before .before .before .before .before .before in (s .pre .0, (s .pre .1, omega (arith, c .if1 .left)))
+is-at-requires c κs = let s = c .before .before .before .before .before in (s .pre, omega (arith, c .if1 .left))
 
 returns-2 : tie.Need-returns-2
 returns-2 c y = c .before .is-at .ensures (c .if2 .taken)
 
 is-at-requires-2 : tie.Need-is-at-requires-2
 is-at-requires-2 c κs =
-    let s = c .before .before .before .before .before .before .before .before in
-    (s .pre .0, (s .pre .1, omega (arith, c .before .before .if1 .left)))
+    let s = c .before .before .before .before .before .before .before in
+    (s .pre, omega (arith, c .before .before .if1 .left))
 
 returns-3 : tie.Need-returns-3
 returns-3 c = search needs
@@ -32,4 +32,4 @@ returns-3 c = search needs
 pub sees-spec : {M : Type 1} → statement M
 sees-spec =
     tie.close
-    (tie.spec returns sub-t11 cast-t13 is-at-requires returns-2 is-at-requires-2 returns-3)
+    (tie.spec returns sub-t10 cast-t12 is-at-requires returns-2 is-at-requires-2 returns-3)

@@ -9,7 +9,7 @@ use Rattle.templates.specs.Tables.{templateOf}
 use Rattle.portions.proofs.Search.{Open, begin, descend, reject, result, carry, nothing}
 use Rattle.portions.proofs.Turns.{left, less-descend, less-reject, less-carry}
 use Rattle.rule.specs.Rule.{isLeaf}
-use Rattle.search.proofs.Scanning.{laws-of}
+use Rattle.search.proofs.Scanning.{sought-of, laws-of}
 use Rattle.search.proofs.next.Statement.{statement}
 use Rattle.search.proofs.next.Tie as tie
 
@@ -23,7 +23,7 @@ corners-of-requires : tie.Need-corners-of-requires Inv-loop μ-loop
 corners-of-requires c κs = search needs
 
 start-requires : tie.Need-start-requires Inv-loop μ-loop
-start-requires c κs = let z = c .before .before .before .before .before .before .before .before in (z .pre .0, z .pre .1 .0)
+start-requires c κs = let z = c .before .before .before .before .before .before .before .before in (z .pre .0, sought-of (z .pre .1 .0))
 
 mul-wide : tie.Need-mul-wide Inv-loop μ-loop
 mul-wide c = omega arith
@@ -40,13 +40,13 @@ add-lo c = omega arith
 loop-holds : tie.Need-loop-holds Inv-loop μ-loop
 loop-holds c =
     let z = c .before .before .before .before .before .before .before .before .before .before in
-    let w = laws-of (z .pre .1 .0) (z .args .kind) (z .args .mark) (z .args .parts .now) in
+    let w = laws-of (sought-of (z .pre .1 .0)) (z .args .kind) (z .args .mark) (z .args .parts .now) in
     let g = z .good .1 .1 .1 .1 .1 .1 .1 .1 .1 .1 .0 in
     let l : length (z .args .mark) ≡ 8 = search needs in
     rw (c .wide .ensures .0) (begin w (c .before .start .ensures .within) (omega (arith, c .before .before .corners-of .ensures)) (c .before .start .ensures .last (z .args .parts .now)))
 
 seek-requires : tie.Need-seek-requires Inv-loop μ-loop
-seek-requires c κs = let z = c .before .before .before .before .before .before .before .before .before .before .before in (z .pre .0, (z .pre .1 .0, c .loop .inv .inside))
+seek-requires c κs = let z = c .before .before .before .before .before .before .before .before .before .before .before in (z .pre .0, (sought-of (z .pre .1 .0), c .loop .inv .inside))
 
 cast-t : tie.Need-cast-t Inv-loop μ-loop
 cast-t c = omega arith
@@ -73,18 +73,19 @@ loop-less c =
 loop-again : tie.Need-loop-again Inv-loop μ-loop
 loop-again c =
     let z = c .before .before .before .before .before .before .before .before .before .before .before .before .before .before in
-    let w = laws-of (z .pre .1 .0) (z .args .kind) (z .args .mark) (z .args .parts .now) in
+    let w = laws-of (sought-of (z .pre .1 .0)) (z .args .kind) (z .args .mark) (z .args .parts .now) in
     descend w (c .before .before .before .loop .inv) (c .before .before .seek .ensures (z .args .parts .now)) (omega arith) (omega (arith, c .before .before .before .before .before .before .corners-of .ensures .0))
 
 is-leaf-requires : tie.Need-is-leaf-requires Inv-loop μ-loop
-is-leaf-requires c κs = let z = c .before .before .before .before .before .before .before .before .before .before .before .before .before .before in
+is-leaf-requires c κs =
+    let z = c .before .before .before .before .before .before .before .before .before .before .before .before .before .before in
     let h = z .pre .1 .0 in
-    (z .pre .0, record { close = h .close; counted = h .counted; few = h .few; indexed = h .indexed; parted = z .pre .1 .1 })
+    record { close = h .close; counted = h .counted; few = h .few; indexed = h .indexed; parted = z .pre .1 .1 }
 
 returns : tie.Need-returns Inv-loop μ-loop
 returns c =
     let z = c .before .before .before .before .before .before .before .before .before .before .before .before .before .before .before .before .before in
-    let w = laws-of (z .pre .1 .0) (z .args .kind) (z .args .mark) (z .args .parts .now) in
+    let w = laws-of (sought-of (z .pre .1 .0)) (z .args .kind) (z .args .mark) (z .args .parts .now) in
     let l = c .before .before .is-leaf .ensures in (
       result w (c .before .before .before .before .before .before .loop .inv) (c .before .before .before .before .before .seek .ensures (z .args .parts .now)) (omega arith) (omega (arith, c .before .before .before .before .before .before .before .before .before .corners-of .ensures .0)) (sym (l .0) ∙ c .before .if3 .taken),
       λ y. l .1 (c .before .if3 .taken),
@@ -103,7 +104,7 @@ loop-less-2 c =
 loop-again-2 : tie.Need-loop-again-2 Inv-loop μ-loop
 loop-again-2 c =
     let z = c .before .before .before .before .before .before .before .before .before .before .before .before .before .before .before .before in
-    let w = laws-of (z .pre .1 .0) (z .args .kind) (z .args .mark) (z .args .parts .now) in
+    let w = laws-of (sought-of (z .pre .1 .0)) (z .args .kind) (z .args .mark) (z .args .parts .now) in
     reject w (c .before .before .before .before .before .loop .inv) (c .before .before .before .before .seek .ensures (z .args .parts .now)) (omega arith) (omega (arith, c .before .before .before .before .before .before .before .before .corners-of .ensures .0)) (sym (c .before .is-leaf .ensures .0) ∙ c .if3 .left)
 
 no-tets-requires : tie.Need-no-tets-requires Inv-loop μ-loop
@@ -112,7 +113,7 @@ no-tets-requires c κs = search needs
 returns-2 : tie.Need-returns-2 Inv-loop μ-loop
 returns-2 c =
     let z = c .before .before .before .before .before .before .before .before .before .before .before .before .before .before .before in
-    let w = laws-of (z .pre .1 .0) (z .args .kind) (z .args .mark) (z .args .parts .now) in
+    let w = laws-of (sought-of (z .pre .1 .0)) (z .args .kind) (z .args .mark) (z .args .parts .now) in
     (nothing w (c .before .before .before .before .loop .inv) (c .before .before .before .seek .ensures (z .args .parts .now)) (omega arith) (omega arith), λ y. absurd (true≢false (sym y)))
 
 sub-d : tie.Need-sub-d Inv-loop μ-loop
@@ -139,7 +140,7 @@ loop-less-3 c =
 loop-again-3 : tie.Need-loop-again-3 Inv-loop μ-loop
 loop-again-3 c =
     let z = c .before .before .before .before .before .before .before .before .before .before .before .before .before .before .before in
-    let w = laws-of (z .pre .1 .0) (z .args .kind) (z .args .mark) (z .args .parts .now) in
+    let w = laws-of (sought-of (z .pre .1 .0)) (z .args .kind) (z .args .mark) (z .args .parts .now) in
     rw (c .wide2 .ensures .0) (carry w (c .before .before .before .before .loop .inv) (c .before .before .before .seek .ensures (z .args .parts .now)) (omega arith) (omega arith))
 
 pub next-spec : {M : Type 1} → statement M

@@ -5,9 +5,8 @@ use lib.ListN.{length}
 use native.Mathlib.Omega.{arith}
 use Rattle.levels.specs.Levels.{base}
 use Rattle.search.proofs.Tables.{row-in}
-use Rattle.search.proofs.Above.{raised-skips}
 use Rattle.search.proofs.Scanning.{chosen-serve, meet-skips, points-are}
-use Rattle.search.proofs.Hunting.{hunt-skips}
+use Rattle.search.proofs.Skipping.{raised-skips, hunt-skips}
 use borrow.Author.Needs.{needs}
 use Rattle.search.proofs.seek.Statement.{statement}
 use Rattle.search.proofs.seek.Tie as tie
@@ -21,26 +20,26 @@ base-of-requires c κs = search needs
 add-x : tie.Need-add-x
 add-x c =
     let b = c in
-    let z = b .before .before .before .before .before .before .before .before in
+    let z = b .before .before .before .before .before .before in
     omega (arith, row-in (z .args .kind) (z .args .d) (z .pre .1 .1), b .base-of .ensures .0)
 
 rise-requires : tie.Need-rise-requires
 rise-requires c κs =
     let b = c in
-    let z = b .before .before .before .before .before .before .before .before in
+    let z = b .before .before .before .before .before .before in
     (z .pre .0, omega (arith, row-in (z .args .kind) (z .args .d) (z .pre .1 .1), b .base-of .ensures .0))
 
 joined-of-requires : tie.Need-joined-of-requires
 joined-of-requires c κs =
     let b = c .before in
-    let z = b .before .before .before .before .before .before .before .before in
+    let z = b .before .before .before .before .before .before in
     (z .pre .0, omega (arith, row-in (z .args .kind) (z .args .d) (z .pre .1 .1), b .base-of .ensures .0))
 
-mul-t25 : tie.Need-mul-t25
-mul-t25 c = search needs
+mul-t23 : tie.Need-mul-t23
+mul-t23 c = search needs
 
-array-read-t28 : tie.Need-array-read-t28
-array-read-t28 c = search needs
+array-read-t26 : tie.Need-array-read-t26
+array-read-t26 c = search needs
 
 row-of-requires : tie.Need-row-of-requires
 row-of-requires c κs = search needs
@@ -48,14 +47,14 @@ row-of-requires c κs = search needs
 also-of-requires : tie.Need-also-of-requires
 also-of-requires c κs =
     let b = c .before .before .before in
-    let z = b .before .before .before .before .before .before .before .before in
+    let z = b .before .before .before .before .before .before in
     (z .pre .0, omega (arith, row-in (z .args .kind) (z .args .d) (z .pre .1 .1), b .base-of .ensures .0))
 
-mul-t25-2 : tie.Need-mul-t25-2
-mul-t25-2 c = search needs
+mul-t23-2 : tie.Need-mul-t23-2
+mul-t23-2 c = search needs
 
-array-read-t28-2 : tie.Need-array-read-t28-2
-array-read-t28-2 c = search needs
+array-read-t26-2 : tie.Need-array-read-t26-2
+array-read-t26-2 c = search needs
 
 row-of-requires-2 : tie.Need-row-of-requires-2
 row-of-requires-2 c κs = search needs
@@ -63,22 +62,22 @@ row-of-requires-2 c κs = search needs
 third-of-requires : tie.Need-third-of-requires
 third-of-requires c κs =
     let b = c .before .before .before .before .before in
-    let z = b .before .before .before .before .before .before .before .before in
+    let z = b .before .before .before .before .before .before in
     (z .pre .0, omega (arith, row-in (z .args .kind) (z .args .d) (z .pre .1 .1), b .base-of .ensures .0))
 
-mul-t25-3 : tie.Need-mul-t25-3
-mul-t25-3 c = search needs
+mul-t23-3 : tie.Need-mul-t23-3
+mul-t23-3 c = search needs
 
-array-read-t28-3 : tie.Need-array-read-t28-3
-array-read-t28-3 c = search needs
+array-read-t26-3 : tie.Need-array-read-t26-3
+array-read-t26-3 c = search needs
 
 row-of-requires-3 : tie.Need-row-of-requires-3
-row-of-requires-3 c κs = c .before .before .before .before .before .before .before .before .before .before .before .before .before .before .pre .1 .0 .tabled
+row-of-requires-3 c κs = c .before .before .before .before .before .before .before .before .before .before .before .before .pre .1 .0 .lent .tabled
 
 nearer-requires : tie.Need-nearer-requires
 nearer-requires c κs =
     let b = c .before .before .before .before .before .before .before in
-    let z = b .before .before .before .before .before .before .before .before in
+    let z = b .before .before .before .before .before .before in
     (z .pre .0, omega (arith, row-in (z .args .kind) (z .args .d) (z .pre .1 .1), b .base-of .ensures .0))
 
 fewer-requires : tie.Need-fewer-requires
@@ -87,35 +86,35 @@ fewer-requires c κs = search needs
 is-hub-requires : tie.Need-is-hub-requires
 is-hub-requires c κs =
     let b = c .before .before .before .before .before .before .before .before .before in
-    let z = b .before .before .before .before .before .before .before .before in
+    let z = b .before .before .before .before .before .before in
     (z .pre .0, omega (arith, row-in (z .args .kind) (z .args .d) (z .pre .1 .1), b .base-of .ensures .0))
 
 is-far-requires : tie.Need-is-far-requires
 is-far-requires c κs =
     let b = c .before .before .before .before .before .before .before .before .before .before .before in
-    let z = b .before .before .before .before .before .before .before .before in
-    (z .pre .0, (z .pre .1 .0 .tabled, omega (arith, row-in (z .args .kind) (z .args .d) (z .pre .1 .1), b .base-of .ensures .0)))
+    let z = b .before .before .before .before .before .before in
+    (z .pre .0, (z .pre .1 .0 .lent .tabled, omega (arith, row-in (z .args .kind) (z .args .d) (z .pre .1 .1), b .base-of .ensures .0)))
 
 hunt-requires : tie.Need-hunt-requires
 hunt-requires c κs =
     let b = c .before .before .before .before .before .before .before .before .before .before .before .before .before in
-    let z = b .before .before .before .before .before .before .before .before in
+    let z = b .before .before .before .before .before .before in
     let g = z .pre .1 .0 in
     let i = row-in (z .args .kind) (z .args .d) (z .pre .1 .1) in
-    (z .pre .0, ((g .close, record { labelled = g .indexed .labelled; few = g .few; tabled = g .tabled; marked = g .marked }), (omega (arith, i, b .base-of .ensures .0), i .1)))
+    (z .pre .0, ((g .close, g .lent), (omega (arith, i, b .base-of .ensures .0), i .1)))
 
 returns-2 : tie.Need-returns-2
 returns-2 c =
     let b = c .before .before .before .before .before .before .before .before .before .before .before .before .before .before in
-    let z = b .before .before .before .before .before .before .before .before in
+    let z = b .before .before .before .before .before .before in
     let a = z .args in
-    let g = z .good .1 .1 .1 .1 .1 .1 .1 .1 .1 .0 in
-    let l : length (a .t10) ≡ 8 = search needs in
+    let g = z .good .1 .1 .1 .1 .1 .1 .1 .0 in
+    let l : length (a .t8) ≡ 8 = search needs in
     let q : b .base-of .result + a .d ≡ base (a .kind) + a .d = ap (λ y. y + a .d) (b .base-of .ensures .0) in
     let pair = c .before .before .before .before .is-hub .ensures (c .before .before .before .if2 .taken) in
     λ ps.
     raised-skips (a .coords .now) (a .labels .now) ps (a .kind) (z .pre .1 .1) (rw q at (c .before .before .before .before .before .before .before .before .before .before .before .before .before .rise .ensures))
-    (hunt-skips (a .coords .now) (a .labels .now) ps (z .pre .1 .0 .marked) (omega (arith, points-are (z .pre .1 .0) (a .kind) (a .t10) ps, z .pre .1 .0 .few)) (a .kind) (a .t10) (a .d) (z .pre .1 .1) (omega (arith, row-in (a .kind) (a .d) (z .pre .1 .1))) (rw q at pair) (rw q at (c .hunt .ensures)))
+    (hunt-skips (a .coords .now) (a .labels .now) ps (z .pre .1 .0 .lent .marked) (omega (arith, points-are (z .pre .1 .0) (a .kind) (a .t8) ps, z .pre .1 .0 .lent .few)) (a .kind) (a .t8) (a .d) (z .pre .1 .1) (omega (arith, row-in (a .kind) (a .d) (z .pre .1 .1))) (rw q at pair) (rw q at (c .hunt .ensures)))
 
 partner-requires : tie.Need-partner-requires
 partner-requires c κs = search needs
@@ -124,27 +123,27 @@ meet-rows-requires : tie.Need-meet-rows-requires
 meet-rows-requires c κs =
     let p = c in
     let b = p .before .before .before .before .before .before .before .before .before .before .before .before in
-    let z = b .before .before .before .before .before .before .before .before in
+    let z = b .before .before .before .before .before .before in
     let a = z .args in
     let q : b .base-of .result + a .d ≡ base (a .kind) + a .d = ap (λ y. y + a .d) (b .base-of .ensures .0) in
-    let y = chosen-serve (z .pre .1 .0) (a .kind) (a .t10) (a .d) (z .pre .1 .1) (b .before .if1 .left) q (p .before .before .before .before .before .before .before .before .before .before .joined-of .ensures .0) (p .before .before .before .before .before .before .before .before .also-of .ensures .0) (p .before .before .before .before .before .before .third-of .ensures .0) (p .before .before .before .before .before .before .before .before .before .row-of .ensures) (p .before .before .before .before .before .before .before .row-of2 .ensures) (p .before .before .before .before .before .row-of3 .ensures) (p .before .before .before .before .nearer .ensures) (p .before .before .before .fewer .ensures) (p .partner .ensures) in
+    let y = chosen-serve (z .pre .1 .0) (a .kind) (a .t8) (a .d) (z .pre .1 .1) (b .before .if1 .left) q (p .before .before .before .before .before .before .before .before .before .before .joined-of .ensures .0) (p .before .before .before .before .before .before .before .before .also-of .ensures .0) (p .before .before .before .before .before .before .third-of .ensures .0) (p .before .before .before .before .before .before .before .before .before .row-of .ensures) (p .before .before .before .before .before .before .before .row-of2 .ensures) (p .before .before .before .before .before .row-of3 .ensures) (p .before .before .before .before .nearer .ensures) (p .before .before .before .fewer .ensures) (p .partner .ensures) in
     let i = row-in (a .kind) (a .d) (z .pre .1 .1) in
-    (z .pre .0, (((z .pre .1 .0 .close, z .pre .1 .0 .marked .size), (omega (arith, i, b .base-of .ensures .0), i .1)), (y .0 .served, y .1 .served)))
+    (z .pre .0, (((z .pre .1 .0 .close, z .pre .1 .0 .lent .marked .size), (omega (arith, i, b .base-of .ensures .0), i .1)), (y .0 .served, y .1 .served)))
 
 returns-3 : tie.Need-returns-3
 returns-3 c =
     let p = c .before in
     let b = p .before .before .before .before .before .before .before .before .before .before .before .before in
-    let z = b .before .before .before .before .before .before .before .before in
+    let z = b .before .before .before .before .before .before in
     let a = z .args in
     let q : b .base-of .result + a .d ≡ base (a .kind) + a .d = ap (λ y. y + a .d) (b .base-of .ensures .0) in
-    let y = chosen-serve (z .pre .1 .0) (a .kind) (a .t10) (a .d) (z .pre .1 .1) (b .before .if1 .left) q (p .before .before .before .before .before .before .before .before .before .before .joined-of .ensures .0) (p .before .before .before .before .before .before .before .before .also-of .ensures .0) (p .before .before .before .before .before .before .third-of .ensures .0) (p .before .before .before .before .before .before .before .before .before .row-of .ensures) (p .before .before .before .before .before .before .before .row-of2 .ensures) (p .before .before .before .before .before .row-of3 .ensures) (p .before .before .before .before .nearer .ensures) (p .before .before .before .fewer .ensures) (p .partner .ensures) in
+    let y = chosen-serve (z .pre .1 .0) (a .kind) (a .t8) (a .d) (z .pre .1 .1) (b .before .if1 .left) q (p .before .before .before .before .before .before .before .before .before .before .joined-of .ensures .0) (p .before .before .before .before .before .before .before .before .also-of .ensures .0) (p .before .before .before .before .before .before .third-of .ensures .0) (p .before .before .before .before .before .before .before .before .before .row-of .ensures) (p .before .before .before .before .before .before .before .row-of2 .ensures) (p .before .before .before .before .before .row-of3 .ensures) (p .before .before .before .before .nearer .ensures) (p .before .before .before .fewer .ensures) (p .partner .ensures) in
     let i = row-in (a .kind) (a .d) (z .pre .1 .1) in
-    let g = z .good .1 .1 .1 .1 .1 .1 .1 .1 .1 .0 in
-    let l : length (a .t10) ≡ 8 = search needs in
+    let g = z .good .1 .1 .1 .1 .1 .1 .1 .0 in
+    let l : length (a .t8) ≡ 8 = search needs in
     λ ps.
     raised-skips (a .coords .now) (a .labels .now) ps (a .kind) (z .pre .1 .1) (rw q at (p .before .before .before .before .before .before .before .before .before .before .before .rise .ensures))
-    (meet-skips (z .pre .1 .0) (a .kind) (a .t10) (a .d) (z .pre .1 .1) (omega (arith, i)) (y .0) (y .1) (rw q at (c .meet-rows .ensures)) ps)
+    (meet-skips (z .pre .1 .0) (a .kind) (a .t8) (a .d) (z .pre .1 .1) (omega (arith, i)) (y .0) (y .1) (rw q at (c .meet-rows .ensures)) ps)
 
 pub seek-spec : {M : Type 1} → statement M
 seek-spec =
@@ -155,16 +154,16 @@ seek-spec =
     add-x
     rise-requires
     joined-of-requires
-    mul-t25
-    array-read-t28
+    mul-t23
+    array-read-t26
     row-of-requires
     also-of-requires
-    mul-t25-2
-    array-read-t28-2
+    mul-t23-2
+    array-read-t26-2
     row-of-requires-2
     third-of-requires
-    mul-t25-3
-    array-read-t28-3
+    mul-t23-3
+    array-read-t26-3
     row-of-requires-3
     nearer-requires
     fewer-requires

@@ -1,0 +1,104 @@
+-- The hunt for the next vertex: leaps over what cannot follow.
+-- Assumes nothing.
+use Prim.Native.Nat.{ℕ, _+_, _-_, _<_, _≤_}
+use mathlib.Core.Path.{_≡_, sym, _∙_, subst}
+use mathlib.Core.Logic.{⊎-elim}
+use mathlib.Core.Bool.{Bool, true, false, not, true≢false}
+use mathlib.Core.List.{List}
+use native.Mathlib.Omega.{arith}
+use native.Mathlib.Decide.{decLt}
+use borrow.Author.Tests.{not-true}
+use lib.IntN.{ℤ}
+use lib.ListN.{set}
+use Rattle.ahead.specs.Ahead.{Least}
+use Rattle.levels.specs.Fits.{fits}
+use Rattle.aims.specs.Aims.{ClosesPair, Follows, Aims, Fit, Goes, Stops}
+
+-- one leap alone
+pub leap-first : {ls t : List ℕ} {x o p n lo v : ℕ} {both : Bool} → Least (ClosesPair ls t x 0 o p) lo n v → both ≡ true → Least (Follows ls t x o p both) lo n v
+leap-first a e = record { most = a .most; low = a .low; least = λ y f h. a .least y (f .each e .0) h }
+
+module _ {ls t : List ℕ} {x o p n lo v r : ℕ} {both : Bool} (a : Least (ClosesPair ls t x 0 o p) lo n v) where
+  -- one leap after another
+  pub leap-each : both ≡ true → Least (ClosesPair ls t x 3 o p) v n r → Least (Follows ls t x o p both) lo n r
+  leap-each e b = record {
+    most = b .most;
+    low = λ h. let g = b .low h in omega (arith, a .low (omega arith));
+    least = λ y f h. b .least y (f .each e .1) (a .least y (f .each e .0) h);
+  }
+
+  -- the least of two leaps and of p and o
+  module _ (e : both ≡ false) (b : Least (ClosesPair ls t x 3 o p) lo n r) where
+    pub leap-some : {m q y : ℕ} → m ≤ v → m ≤ r → (m < n → lo ≤ m) → Least (λ y. y ≡ p) lo m q → Least (λ y. y ≡ o) lo q y → Least (Follows ls t x o p both) lo n y
+    leap-some {m} {q} {y} i j g c d = record {
+      most = omega (arith, a .most, c .most, d .most);
+      low = λ h. elim (decLt y q) [
+        | yes k ↦ d .low k
+        | no k ↦ elim (decLt q m) [ yes z ↦ omega (arith, k, c .low z) | no z ↦ omega (arith, k, z, c .most, g (omega (arith, k, z, c .most))) ]
+      ];
+      least = λ w f h. ⊎-elim (λ z. ⊎-elim (λ z. d .least w z h) (λ z. omega (arith, c .least w z h, d .most)) z) (λ z. ⊎-elim (λ z. omega (arith, a .least w z h, c .most, d .most)) (λ z. omega (arith, b .least w z h, c .most, d .most)) z) (f .some e);
+    }
+
+-- ── the hunt ──
+
+-- what is asked for from lo on and below n comes from v on
+pub record Passed (asked : ℕ → Type 0) (n lo v : ℕ) : Type 0 where
+  pub low : lo ≤ v
+  pub rest : (y : ℕ) → asked y → lo ≤ y → y < n → v ≤ y
+
+module _ {asked : ℕ → Type 0} {n lo : ℕ} where
+  pub passed-none : Passed asked n lo lo
+  passed-none = record { low = omega arith; rest = λ y p h g. h }
+
+  module _ {v : ℕ} (a : Passed asked n lo v) where
+    pub hunted-none : n ≤ v → Least asked lo n n
+    hunted-none h = record {
+      most = omega arith;
+      low = λ g. absurd (let z : ⊥ = omega arith in z);
+      least = λ y p g. elim (decLt y n) [ yes l ↦ omega (arith, a .rest y p g l) | no l ↦ omega arith ];
+    }
+
+    module _ {leaps : ℕ → Type 0} {r : ℕ} (only : (y : ℕ) → asked y → leaps y) (b : Least leaps v n r) where
+      beyond-r : (y : ℕ) → asked y → lo ≤ y → y < n → r ≤ y
+      beyond-r y p g l = b .least y (only y p) (a .rest y p g l)
+
+      pub hunted : Least asked lo n r
+      hunted = record {
+        most = b .most;
+        low = λ h. omega (arith, a .low, b .low h);
+        least = λ y p g. elim (decLt y n) [ yes l ↦ beyond-r y p g l | no l ↦ omega (arith, b .most) ];
+      }
+
+      -- and on from after it
+      pub passed-next : v < n → {q : Bool} → Stops asked n r q → q ≡ false → Passed asked n lo (r + 1)
+      passed-next l {q} s e = record {
+        low = elim (decLt r n) [ yes h ↦ omega (arith, a .low, b .low h) | no h ↦ omega (arith, a .low) ];
+        rest = λ y p g i. elim (decLt r y) [
+          | yes h ↦ omega arith
+          | no h ↦ let z : y ≡ r = omega (arith, beyond-r y p g i) in absurd (s .none e (omega arith) (subst asked z p))
+        ];
+      }
+
+pub hunt-less : {asked : ℕ → Type 0} {n v r q : ℕ} → Least asked v n r → v < n → r < q → n - q < n - v
+hunt-less {asked} {n} {v} {r} b h l = elim (decLt r n) [ yes i ↦ omega (arith, b .low i) | no i ↦ omega arith ]
+
+-- ── one vertex ──
+
+module _ (zs : List ℤ) (ms : List ℕ) (x d : ℕ) (t : List ℕ) where
+  pub stops-fit : {n v : ℕ} {r : Bool} → r ≡ fits zs ms x d (set t d v) → Stops (Fit zs ms x d t) n v r
+  stops-fit {n} {v} {r} e = record { none = λ f h g. true≢false (sym (e ∙ g) ∙ f) }
+
+  pub stops-goes : {ls : List ℕ} {n v : ℕ} {r : Bool} → Stops (Fit zs ms x d t) n v r → Stops (Goes zs ls ms x d t) n v r
+  stops-goes s = record { none = λ f h g. s .none f h (g .fit) }
+
+module _ {zs : List ℤ} {ls ms : List ℕ} {x d : ℕ} {t : List ℕ} where
+  module _ {some both : Bool} {o p : ℕ} (q : Aims ls t x some both o p) where
+    pub goes-follows : (v : ℕ) → Goes zs ls ms x d t v → Follows ls t x o p both v
+    goes-follows v g = g .follows some both o p q .1
+
+    pub hunt-none : {lo n : ℕ} → not some ≡ true → Least (Goes zs ls ms x d t) lo n n
+    hunt-none e = record {
+      most = omega arith;
+      low = λ g. absurd (let z : ⊥ = omega arith in z);
+      least = λ v g h. absurd (true≢false (sym (g .follows some both o p q .0) ∙ not-true some e));
+    }

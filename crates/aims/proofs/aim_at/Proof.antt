@@ -1,0 +1,76 @@
+-- `aims::aim_at` meets its contract. Assumes nothing.
+use mathlib.Core.Path.{_≡_, refl}
+use mathlib.Core.Logic.{_⊎_, inl, inr, ⊎-elim}
+use mathlib.Core.Bool.{true≢false}
+use native.Mathlib.Omega.{arith}
+use borrow.Author.Needs.{needs}
+use Rattle.aims.proofs.aim_at.Statement.{statement}
+use Rattle.aims.proofs.aim_at.Tie as tie
+
+array-read-wide : tie.Need-array-read-wide
+array-read-wide c = search needs
+
+array-read-wide-2 : tie.Need-array-read-wide-2
+array-read-wide-2 c = search needs
+
+fullest-requires : tie.Need-fullest-requires
+fullest-requires c κs = search needs
+
+returns : tie.Need-returns
+returns c = record { none = λ e. absurd (true≢false e); each = λ e. (refl, inr (inl (omega arith))); either = λ e. absurd (true≢false e) }
+
+returns-2 : tie.Need-returns-2
+returns-2 c = record { none = λ e. absurd (true≢false e); each = λ e. (refl, inl refl); either = λ e. absurd (true≢false e) }
+
+array-read-wide-3 : tie.Need-array-read-wide-3
+array-read-wide-3 c = search needs
+
+wide-requires : tie.Need-wide-requires
+wide-requires c κs = search needs
+
+add-t24 : tie.Need-add-t24
+add-t24 c = search needs
+
+array-read-t27 : tie.Need-array-read-t27
+array-read-t27 c = search needs
+
+array-read-t30 : tie.Need-array-read-t30
+array-read-t30 c = search needs
+
+array-read-t33 : tie.Need-array-read-t33
+array-read-t33 c = search needs
+
+array-read-t15 : tie.Need-array-read-t15
+array-read-t15 c = search needs
+
+sole-requires : tie.Need-sole-requires
+sole-requires c κs = search needs
+
+aim-by-requires : tie.Need-aim-by-requires
+aim-by-requires c κs =
+    let z = c .before .before .before .before .before .before in
+    let which : (z .args .x ≡ 3) ⊎ (z .args .x ≡ 11) = ⊎-elim (λ w. inr (omega arith)) (λ w. inl (omega arith)) (c .before .before .if1 .came) in
+    (z .pre, (which, rw (c .before .wide .ensures .0) at (c .sole .ensures)))
+
+returns-3 : tie.Need-returns-3
+returns-3 c = search needs
+
+pub aim-at-spec : {M : Type 1} → statement M
+aim-at-spec =
+    tie.close
+    (tie.spec
+    array-read-wide
+    array-read-wide-2
+    fullest-requires
+    returns
+    returns-2
+    array-read-wide-3
+    wide-requires
+    add-t24
+    array-read-t27
+    array-read-t30
+    array-read-t33
+    array-read-t15
+    sole-requires
+    aim-by-requires
+    returns-3)

@@ -1,0 +1,29 @@
+-- `aims::aim_by` meets its contract. Assumes nothing.
+use mathlib.Core.Path.{refl, sym, _∙_}
+use mathlib.Core.Logic.{inl, inr}
+use mathlib.Core.Bool.{true≢false}
+use native.Mathlib.Omega.{arith}
+use borrow.Author.Tests.{not-true}
+use borrow.Author.Needs.{needs}
+use Rattle.aims.proofs.aim_by.Statement.{statement}
+use Rattle.aims.proofs.aim_by.Tie as tie
+
+returns : tie.Need-returns
+returns c =
+    let z = c .before .before .before .before .before .before in
+    let f = not-true _ (c .if2 .taken) in
+    record { none = λ e. (omega arith, λ y l. true≢false (sym (z .pre .1 .1 y l .some) ∙ f)); each = λ e. (refl, inr (inr (omega arith, λ y l. absurd (true≢false (sym (z .pre .1 .1 y l .some) ∙ f))))); either = λ e. absurd (true≢false e) }
+
+returns-2 : tie.Need-returns-2
+returns-2 c =
+    let z = c .before .before .before .before .before .before .before in
+    record { none = λ e. absurd (true≢false e); each = λ e. (refl, inr (inr (omega arith, λ y l. z .pre .1 .1 y l .one (c .if3 .taken)))); either = λ e. absurd (true≢false e) }
+
+aim-among-requires : tie.Need-aim-among-requires
+aim-among-requires c κs = c .before .before .before .before .pre
+
+returns-3 : tie.Need-returns-3
+returns-3 c = c .aim-among .ensures
+
+pub aim-by-spec : {M : Type 1} → statement M
+aim-by-spec = tie.close (tie.spec returns returns-2 aim-among-requires returns-3)

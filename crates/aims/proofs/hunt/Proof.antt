@@ -1,0 +1,72 @@
+-- `aims::hunt` meets its contract. Assumes nothing.
+use Prim.Native.Nat.{_-_}
+use native.Mathlib.Omega.{arith}
+use Rattle.aims.specs.Aims.{Goes}
+use Rattle.aims.proofs.Hunting.{Passed, passed-none, passed-next, hunted, hunted-none, hunt-less, hunt-none, goes-follows, stops-goes}
+use Rattle.aims.proofs.hunt.Statement.{statement}
+use Rattle.aims.proofs.hunt.Tie as tie
+
+abbrev Inv-loop : tie.InvT-loop
+Inv-loop tables coords labels n table marks t x d lo aim v₀ v = Passed (Goes coords labels marks x d t) n lo v
+
+abbrev μ-loop : tie.MeasureT-loop
+μ-loop tables coords labels n table marks t x d lo aim v₀ v = n - v
+
+aim-at-requires : tie.Need-aim-at-requires Inv-loop μ-loop
+aim-at-requires c κs = let z = c .before .before .before .before in z .pre .1 .0 .1
+
+returns : tie.Need-returns Inv-loop μ-loop
+returns c = hunt-none (c .before .before .aim-at .ensures) (c .if1 .taken)
+
+loop-holds : tie.Need-loop-holds Inv-loop μ-loop
+loop-holds c = passed-none
+
+leap-requires : tie.Need-leap-requires Inv-loop μ-loop
+leap-requires c κs =
+    let z = c .before .before .before .before .before .before .before .before .before in
+    (z .pre .0, ((z .pre .1 .0 .1, omega arith), z .pre .1 .1 .0))
+
+goes-on-requires : tie.Need-goes-on-requires Inv-loop μ-loop
+goes-on-requires c κs =
+    let z = c .before .before .before .before .before .before .before .before .before .before in
+    (z .pre .0, ((z .pre .1 .0 .0, (z .pre .1 .0 .1 .marked .size, z .pre .1 .0 .1 .few)), z .pre .1 .1))
+
+returns-2 : tie.Need-returns-2 Inv-loop μ-loop
+returns-2 c =
+    let b = c .before .before in
+    let l = b .before .before in
+    hunted (l .loop .inv) (goes-follows (l .before .before .before .aim-at .ensures)) (b .leap .ensures)
+
+add-v : tie.Need-add-v Inv-loop μ-loop
+add-v c =
+    let z = c .before .before .before .before .before .before .before .before .before .before .before .before in
+    omega (arith, c .before .before .leap .ensures .most, z .pre .1 .0 .1 .few)
+
+loop-less : tie.Need-loop-less Inv-loop μ-loop
+loop-less c = hunt-less (c .before .before .leap .ensures) (omega arith) (omega arith)
+
+loop-again : tie.Need-loop-again Inv-loop μ-loop
+loop-again c =
+    let b = c .before .before in
+    let l = b .before .before in
+    passed-next (l .loop .inv) (goes-follows (l .before .before .before .aim-at .ensures)) (b .leap .ensures) (omega arith) (stops-goes _ _ _ _ _ (c .before .goes-on .ensures)) (c .if2 .left)
+
+returns-3 : tie.Need-returns-3 Inv-loop μ-loop
+returns-3 c = hunted-none (c .before .loop .inv) (omega arith)
+
+pub hunt-spec : {M : Type 1} → statement M
+hunt-spec =
+    tie.close
+    (tie.spec
+    Inv-loop
+    μ-loop
+    aim-at-requires
+    returns
+    loop-holds
+    leap-requires
+    goes-on-requires
+    returns-2
+    add-v
+    loop-less
+    loop-again
+    returns-3)

@@ -1,0 +1,351 @@
+// The look-ahead's aims: at a place whose joined corners have many neighbours, which vertices can follow there is told by the faces to come.
+// A tuple is kept in search order; x is the row of a place in the tables of the levels.
+use ahead::Bar;
+use ahead::Linking;
+use ahead::beyond;
+use ahead::fewer;
+use ahead::fuller;
+use ahead::fullest;
+use ahead::lower;
+use ahead::sole;
+use levels::look_of;
+use levels::tries;
+use neighbours::row_of;
+use space::Vertex;
+ghost use mathlib.Core.Path.{_≡_};
+ghost use mathlib.Core.Logic.{_⊎_};
+ghost use mathlib.Core.Bool.{true, false};
+ghost use mathlib.Core.List.{[]};
+ghost use Prim.Native.Nat.{_<_, _≤_};
+ghost use lib.Dec.{eqb};
+ghost use lib.ListN.{length};
+ghost use Rattle.space.specs.Arrays.{meshOf, Close};
+ghost use Rattle.marks.specs.Marks.{places};
+ghost use Rattle.neighbours.specs.Reading.{Tabled};
+ghost use Rattle.ahead.specs.Ahead.{Lent, Only, Least};
+ghost use Rattle.levels.specs.Levels.{look, levels};
+ghost use Rattle.aims.specs.Aims.{floorOf, ClosesPair, Follows, LinksFirst, Aims, Fit, Goes, Stops};
+
+// A place looks ahead where its rows are longer than this. That is a matter of speed alone.
+const HUB: usize = 24;
+
+fn wide(x: u16) -> usize
+    ensures { λ r. ⌜ (r ≡ x) × (r < 65536) ⌝ }
+{
+    x as usize
+}
+
+// ---- the aim at a place
+
+// The corners of the kinds 8 and 6 are all above the first one.
+fn floor_of(t: [u16; 8], x: usize) -> usize
+    ensures { λ r. ⌜ r ≡ floorOf t x ⌝ }
+{
+    if x < 14 { wide(t[0]) + 1 } else { 0 }
+}
+
+// What the look-ahead at a place goes by: whether any cell goes on, whether both pairs of the row are asked for, and two vertices that may not link
+// them, which may be one.
+struct Aim {
+    some: bool,
+    both: bool,
+    o: u16,
+    p: u16,
+}
+
+// By the vertices q that link the first three corners. One with many neighbours is barred: it may link both side faces only if it is place 3 itself.
+// Where at row 3 a pair links them, both are barred: one of them is a corner of that face.
+fn aim_among(
+    labels: &[u16],
+    n: usize,
+    table: &[u16],
+    marks: &[u8],
+    t: [u16; 8],
+    x: usize,
+    q: Linking,
+) -> Aim
+    requires { ⌜ Lent (now labels) n (now table) (now marks) ⌝ }
+    requires { ⌜ ((x ≡ 3) ⊎ (x ≡ 11)) × Only (LinksFirst (now labels) t) q ⌝ }
+    ensures { λ r. ⌜ Aims (now (labels .entry)) t x (r .some) (r .both) (r .o) (r .p) ⌝ }
+{
+    let o = q.other;
+    let p = q.vertex;
+    let v = fuller(labels, n, table, marks, Vertex(o), Vertex(p));
+    let row = row_of(labels, n, table, Vertex(v));
+    if row.size <= HUB {
+        return Aim {
+            some: true,
+            both: true,
+            o: 65535,
+            p: 65535,
+        };
+    }
+    if x == 3 {
+        if q.pair {
+            return Aim {
+                some: true,
+                both: false,
+                o: o,
+                p: p,
+            };
+        }
+    }
+    Aim {
+        some: true,
+        both: false,
+        o: v,
+        p: v,
+    }
+}
+
+// At row 3 the face of the first three corners needs a vertex that links them: without one no cell goes on, and a sole one is a corner of that
+// face and links no other face of the place.
+fn aim_by(
+    labels: &[u16],
+    n: usize,
+    table: &[u16],
+    marks: &[u8],
+    t: [u16; 8],
+    x: usize,
+    q: Linking,
+) -> Aim
+    requires { ⌜ Lent (now labels) n (now table) (now marks) ⌝ }
+    requires { ⌜ ((x ≡ 3) ⊎ (x ≡ 11)) × Only (LinksFirst (now labels) t) q ⌝ }
+    ensures { λ r. ⌜ Aims (now (labels .entry)) t x (r .some) (r .both) (r .o) (r .p) ⌝ }
+{
+    if x == 3 {
+        let p = q.vertex;
+        if !q.some {
+            return Aim {
+                some: false,
+                both: true,
+                o: p,
+                p: p,
+            };
+        }
+        if q.single {
+            return Aim {
+                some: true,
+                both: true,
+                o: p,
+                p: p,
+            };
+        }
+    }
+    aim_among(labels, n, table, marks, t, x, q)
+}
+
+// At row 16 any vertex may be barred: the apex links the first three corners, and so does another corner.
+fn aim_at(labels: &[u16], n: usize, table: &[u16], marks: &[u8], t: [u16; 8], x: usize) -> Aim
+    requires { ⌜ Lent (now labels) n (now table) (now marks) ⌝ }
+    ensures { λ r. ⌜ Aims (now (labels .entry)) t x (r .some) (r .both) (r .o) (r .p) ⌝ }
+{
+    let a = Vertex(t[0]);
+    let b = Vertex(t[1]);
+    if x != 3 {
+        if x != 11 {
+            let mut p = 65535;
+            if x == 16 {
+                p = fullest(labels, n, table, marks, a, b);
+            }
+            return Aim {
+                some: true,
+                both: true,
+                o: p,
+                p: p,
+            };
+        }
+    }
+    let bar = Bar {
+        floor: wide(t[0]) + 1,
+        o: t[1],
+        p: t[1],
+        q: t[1],
+    };
+    let q = sole(labels, n, table, marks, bar, a, b, Vertex(t[2]));
+    aim_by(labels, n, table, marks, t, x, q)
+}
+
+// ---- by the aim
+
+// The least vertex from lo on that can follow the pair at the entries i and i + 1 of row x, or n; o and p may not link them, nor the place at entry i + 2.
+fn reach(
+    tables: &[u8],
+    labels: &[u16],
+    n: usize,
+    table: &[u16],
+    marks: &[u8],
+    t: [u16; 8],
+    x: usize,
+    i: usize,
+    o: Vertex,
+    p: Vertex,
+    lo: usize,
+) -> usize
+    requires { ⌜ now tables ≡ levels ⌝ }
+    requires { ⌜ Lent (now labels) n (now table) (now marks) × (lo ≤ n) ⌝ }
+    requires { ⌜ (x < 19) × (i < 4) ⌝ }
+    ensures { λ r. ⌜ Least (ClosesPair (now (labels .entry)) t x i (o .0) (p .0)) lo n r ⌝ }
+{
+    let u = t[look_of(tables, x, i)];
+    let w = t[look_of(tables, x, i + 1)];
+    let q = t[look_of(tables, x, i + 2)];
+    let bar = Bar {
+        floor: floor_of(t, x),
+        o: o.0,
+        p: p.0,
+        q: q,
+    };
+    beyond(labels, n, table, marks, bar, Vertex(u), Vertex(w), lo)
+}
+
+// Whether the second pair of row x is the first again.
+fn is_twice(tables: &[u8], x: usize) -> bool
+    requires { ⌜ now tables ≡ levels ⌝ }
+    requires { ⌜ x < 19 ⌝ }
+{
+    if look_of(tables, x, 0) == look_of(tables, x, 3) {
+        look_of(tables, x, 1) == look_of(tables, x, 4)
+    } else {
+        false
+    }
+}
+
+// The least vertex from lo on that can follow by the aim, or n; where both pairs are asked for, one that follows the second alone may come before it.
+fn leap(
+    tables: &[u8],
+    labels: &[u16],
+    n: usize,
+    table: &[u16],
+    marks: &[u8],
+    t: [u16; 8],
+    x: usize,
+    aim: Aim,
+    lo: usize,
+) -> usize
+    requires { ⌜ now tables ≡ levels ⌝ }
+    requires { ⌜ Lent (now labels) n (now table) (now marks) × (lo ≤ n) ⌝ }
+    requires { ⌜ x < 19 ⌝ }
+    ensures { λ r. ⌜ Least (Follows (now (labels .entry)) t x (aim .o) (aim .p) (aim .both)) lo n r ⌝ }
+{
+    let o = Vertex(aim.o);
+    let p = Vertex(aim.p);
+    let v = reach(tables, labels, n, table, marks, t, x, 0, o, p, lo);
+    if aim.both {
+        if is_twice(tables, x) {
+            return v;
+        }
+        return reach(tables, labels, n, table, marks, t, x, 3, o, p, v);
+    }
+    let r = reach(tables, labels, n, table, marks, t, x, 3, o, p, lo);
+    let b = if v < r { v } else { r };
+    lower(o, lo, lower(p, lo, b))
+}
+
+// The tuple goes on with v at place d: where this is false, no cell does.
+fn goes_on(
+    tables: &[u8],
+    coords: &[i64],
+    marks: &[u8],
+    n: usize,
+    t: [u16; 8],
+    x: usize,
+    d: usize,
+    v: usize,
+) -> bool
+    requires { ⌜ now tables ≡ levels ⌝ }
+    requires { ⌜ Close (now coords) × ((length (now marks) ≡ places) × (n ≤ 512)) ⌝ }
+    requires { ⌜ (x < 19) × (d < 8) ⌝ }
+    ensures { λ r. ⌜ Stops (Fit (now (coords .entry)) (now (marks .entry)) x d t) n v r ⌝ }
+{
+    if n <= v {
+        return false;
+    }
+    tries(tables, coords, marks, t, x, d, Vertex(v as u16))
+}
+
+// A vertex from lo on with which the tuple goes on at place d, or n. No cell is left out before it.
+pub fn hunt(
+    tables: &[u8],
+    coords: &[i64],
+    labels: &[u16],
+    n: usize,
+    table: &[u16],
+    marks: &[u8],
+    t: [u16; 8],
+    x: usize,
+    d: usize,
+    lo: usize,
+) -> usize
+    requires { ⌜ now tables ≡ levels ⌝ }
+    requires { ⌜ Close (now coords) × Lent (now labels) n (now table) (now marks) ⌝ }
+    requires { ⌜ (x < 19) × (d < 8) ⌝ }
+    ensures { λ r. ⌜ Least (Goes (now (coords .entry)) (now (labels .entry)) (now (marks .entry)) x d t) lo n r ⌝ }
+{
+    let aim = aim_at(labels, n, table, marks, t, x);
+    if !aim.some {
+        return n;
+    }
+    let mut v = lo;
+    while v < n {
+        let r = leap(tables, labels, n, table, marks, t, x, aim, v);
+        if goes_on(tables, coords, marks, n, t, x, d, r) {
+            return r;
+        }
+        v = r + 1;
+    }
+    n
+}
+
+// ---- where to look ahead
+
+// Whether to look ahead at row x: it has a pair of places, and both joined corners have many neighbours.
+pub fn is_hub(tables: &[u8], x: usize, size: usize) -> bool
+    requires { ⌜ now tables ≡ levels ⌝ }
+    requires { ⌜ x < 19 ⌝ }
+    ensures { λ r. ⌜ (r ≡ true → eqb (look x 0) (look x 1) ≡ false) ⌝ }
+{
+    if look_of(tables, x, 0) == look_of(tables, x, 1) {
+        return false;
+    }
+    HUB < size
+}
+
+// How many neighbours the one with fewer has of the pair at the entries i and i + 1 of row x.
+fn pair_size(
+    tables: &[u8],
+    labels: &[u16],
+    n: usize,
+    table: &[u16],
+    t: [u16; 8],
+    x: usize,
+    i: usize,
+) -> usize
+    requires { ⌜ (now tables ≡ levels) × (Tabled (meshOf [] (now labels) []) n (now table) × ((x < 19) × (i < 5))) ⌝ }
+{
+    let u = t[look_of(tables, x, i)];
+    let w = t[look_of(tables, x, i + 1)];
+    let r = row_of(labels, n, table, Vertex(u));
+    let q = row_of(labels, n, table, Vertex(w));
+    let one = fewer(r, q);
+    one.size
+}
+
+// Whether looking ahead pays where a row of this size would be gone through: a pair of row x has few neighbours beside it.
+pub fn is_far(
+    tables: &[u8],
+    labels: &[u16],
+    n: usize,
+    table: &[u16],
+    t: [u16; 8],
+    x: usize,
+    size: usize,
+) -> bool
+    requires { ⌜ (now tables ≡ levels) × (Tabled (meshOf [] (now labels) []) n (now table) × (x < 19)) ⌝ }
+{
+    let most = size / 4;
+    if pair_size(tables, labels, n, table, t, x, 0) <= most {
+        return true;
+    }
+    pair_size(tables, labels, n, table, t, x, 3) <= most
+}

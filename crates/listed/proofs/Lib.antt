@@ -1,0 +1,5 @@
+pub mod Prune
+pub mod Joined
+pub mod Leaves
+pub mod Above
+pub mod Ahead

@@ -1,0 +1,35 @@
+// The test of a whole tuple of the search: a cell in least form.
+use crate::Verdict;
+use crate::is_cell;
+use crate::no;
+use templates::is_least;
+use templates::letters;
+ghost use mathlib.Core.Path.{_≡_};
+ghost use mathlib.Core.Bool.{true};
+ghost use Rattle.space.specs.Arrays.{meshOf};
+ghost use Rattle.templates.specs.Tables.{templateOf};
+ghost use Rattle.filling.specs.Found.{Found};
+ghost use Rattle.rule.specs.Rule.{isLeaf, cellAt};
+ghost use Rattle.around.specs.Arrays.{Arrays};
+
+// The tuple, in search order, is a cell in least form, and the tetrahedra of that cell.
+pub fn is_leaf(
+    coords: &[i64],
+    labels: &[u16],
+    parts: &[u16],
+    n: usize,
+    offsets: &[u16],
+    entries: &[u16],
+    kind: u16,
+    s: [u16; 8],
+) -> Verdict
+    requires { ⌜ Arrays (now coords) (now labels) (now parts) n (now offsets) (now entries) ⌝ }
+    ensures { λ r. ⌜ r .yes ≡ isLeaf (meshOf (now (coords .entry)) (now (labels .entry)) (now (parts .entry))) (templateOf kind) s ⌝ }
+    ensures { λ r. ⌜ (r .yes ≡ true → Found (cellAt (meshOf (now (coords .entry)) (now (labels .entry)) (now (parts .entry))) (templateOf kind) s .tets) (r .tets)) ⌝ }
+{
+    let c = letters(kind, s);
+    if !is_least(kind, &c) {
+        return no();
+    }
+    is_cell(coords, labels, parts, n, offsets, entries, kind, &c)
+}
