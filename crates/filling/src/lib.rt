@@ -17,15 +17,17 @@ ghost use Rattle.filling.specs.Next.{Hit, hasStamp, Stamped, Rising, Lea
 ghost use Rattle.filling.specs.Filled.{sidesIn, markOf, Noted, Marks, low, Lettered, sidesBy, once, paired, covers, fills, onePart};
 use around::row_of;
 use cells::corners4;
+use record::TET_PLACES;
+use record::UNUSED;
 use space::Tet;
 use space::Vertex;
 use templates::corner;
 use templates::is_in;
 
-// How many tetrahedra a cell has, and the numbers of the first 25, rising; 65,535 where unused.
+// How many tetrahedra a cell has, and the numbers of the first, as many as a record has places for, rising.
 pub struct Tets {
     pub count: usize,
-    pub list: [u16; 25],
+    pub list: [u16; TET_PLACES],
 }
 
 // ---- a cell's tetrahedra
@@ -92,7 +94,7 @@ fn push(f: Tets, e: Tet) -> Tets
     let i = e.0;
     let k = f.count;
     let mut list = f.list;
-    if k < 25 {
+    if k < TET_PLACES {
         list[k] = i;
     }
     Tets { count: k + 1, list }
@@ -406,7 +408,7 @@ pub fn find(
     let mut places = no_places();
     let mut found = Tets {
         count: 0,
-        list: [65535; 25],
+        list: [UNUSED; TET_PLACES],
     };
     let mut i = next(labels, n, offsets, entries, 0, w, &m, &mut places, c, quads);
     while i < t {

@@ -2,14 +2,14 @@
 use mathlib.Core.Path.{_≡_, refl, sym, _∙_, ap, subst, fun-ext}
 use mathlib.Core.Bool.{Bool, true, false, cond}
 use mathlib.Core.List.{List, [], _∷_, _++_, map}
-use Prim.Native.Nat.{ℕ, zero, suc, _+_, _-_, _*_, _/_, _≤_, _<_}
+use Prim.Native.Nat.{ℕ, zero, suc, _+_, _*_, _/_, _≤_, _<_}
 use native.Mathlib.Numerals.{add-one}
 use native.Mathlib.Omega.{arith}
 use lib.Dec.{eqb}
 use lib.IntN.{ℤ}
-use lib.ListN.{length, getD, take, set, replicate, length-replicate, length-set, length-append}
-use lib.Seq.{length-take-le, take-all, take-at, take-suc-set}
-use Rattle.base.specs.Lists.{all, count, keep, from, upTo, pad}
+use lib.ListN.{length, getD, take, set, replicate, length-replicate, length-set}
+use lib.Seq.{length-take-le, take-suc-set}
+use Rattle.base.specs.Lists.{all, count, keep, from, upTo}
 use Rattle.base.proofs.Lists.{keep-map}
 use Rattle.space.specs.Mesh.{Tetrahedron, holds}
 use Rattle.space.specs.Arrays.{tetAt, meshOf}
@@ -92,18 +92,6 @@ module _ (ls ps qs c : List ℕ) where
   pub last-are : (ts ws xs : List ℕ) → xs ≡ numbers → lastOf (fills (sidesIn ls xs c) (threes ts) (fours qs) (threes ws)) (onePart ps xs) ≡ lastFailing ls ps c ts qs ws
   unfolding lastFailing
   last-are ts ws xs e = rw (e, filled-are ts ws, part-are)
-
--- at most 25 that are found stand first in the list
-pub found-all : {xs : List ℕ} {f : Tets} → Found xs f → f .count ≤ 25 → take (f .count) (f .list) ≡ xs
-found-all {xs} {f} h l =
-    let k : length xs ≤ 25 = omega (arith, h .count) in
-    rw (h .count, h .list, take-all 25 xs k) (take-at xs _ (length xs) refl)
-
-pub found-long : {xs : List ℕ} {f : Tets} → Found xs f → f .count ≤ 25 → f .count ≤ length (f .list)
-found-long {xs} {f} h l =
-    let k : length xs ≤ 25 = omega (arith, h .count) in
-    let e : f .list ≡ xs ++ replicate (25 - length xs) 65535 = rw (take-all 25 xs k) at (h .list) in
-    omega (arith, ap length e, length-append xs (replicate (25 - length xs) 65535), h .count)
 
 -- ---- all of them, gathered in an array of 2,048
 

@@ -10,6 +10,7 @@ ghost use Rattle.around.specs.Index.{Indexed};
 ghost use Rattle.templates.specs.Tables.{hexahedron, prism, pyramid, templateOf};
 ghost use Rattle.cells.specs.Cells.{inside, numbersOf, isCell, firstFailing};
 ghost use Rattle.cells.specs.Rows.{threes, fours, tabled, quadsOf};
+ghost use Rattle.record.specs.Entries.{tetPlaces};
 ghost use Rattle.filling.specs.Found.{Found};
 ghost use Rattle.filling.specs.Filled.{sidesIn, Lettered, fills, onePart};
 ghost use Rattle.verdict.specs.Judged.{Arrays, lastOf, lastFailing, isSolid, Tells};
@@ -22,6 +23,8 @@ use filling::belongs_to;
 use filling::find;
 use filling::is_filled;
 use filling::is_one_part;
+use record::TET_PLACES;
+use record::UNUSED;
 use space::Tet;
 use templates::HEX_EDGES;
 use templates::HEX_INSIDE;
@@ -108,7 +111,7 @@ fn judge_many(
     )
 }
 
-// Of a cell with at most 25, which were found.
+// Of a cell all of whose tetrahedra stand in the list that was found.
 fn judge_few(
     labels: &[u16],
     parts: &[u16],
@@ -118,13 +121,13 @@ fn judge_few(
     quads: &[u8],
     within: &[u8],
 ) -> u8
-    requires { ⌜ Found (numbersOf (meshOf [] (now labels) []) (quadsOf (now quads)) (now c)) found × ((found .count ≤ 25) × (length (now parts) ≡ length (now labels) / 4)) ⌝ }
+    requires { ⌜ Found (numbersOf (meshOf [] (now labels) []) (quadsOf (now quads)) (now c)) found × ((found .count ≤ tetPlaces) × (length (now parts) ≡ length (now labels) / 4)) ⌝ }
     requires { ⌜ Lettered (now triangles) (now quads) (now within) ⌝ }
     ensures { λ r. ⌜ r ≡ lastFailing (now (labels .entry)) (now (parts .entry)) (now (c .entry)) (now (triangles .entry)) (now (quads .entry)) (now (within .entry)) ⌝ }
 {
     let k = found.count;
     let list = found.list;
-    let mut has = [0u8; 200];
+    let mut has = [0u8; 8 * TET_PLACES];
     judge_list(
         labels,
         parts,
@@ -152,7 +155,7 @@ fn judge_found(
     requires { ⌜ Lettered (now triangles) (now quads) (now within) ⌝ }
     ensures { λ r. ⌜ r ≡ lastFailing (now (labels .entry)) (now (parts .entry)) (now (c .entry)) (now (triangles .entry)) (now (quads .entry)) (now (within .entry)) ⌝ }
 {
-    if found.count <= 25 {
+    if found.count <= TET_PLACES {
         judge_few(labels, parts, found, c, triangles, quads, within)
     } else {
         judge_many(labels, parts, c, triangles, quads, within)
@@ -359,7 +362,7 @@ pub fn judge(
 pub fn no_tets() -> Tets {
     Tets {
         count: 0,
-        list: [65535; 25],
+        list: [UNUSED; TET_PLACES],
     }
 }
 

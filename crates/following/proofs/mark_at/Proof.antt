@@ -1,9 +1,9 @@
--- `records::mark_at` meets its contract. Assumes nothing.
+-- `following::mark_at` meets its contract. Assumes nothing.
 use mathlib.Core.Path.{refl}
 use borrow.Author.Tests.{eq-eqb, ne-eqb}
 use borrow.Author.Needs.{needs}
-use Rattle.records.proofs.mark_at.Statement.{statement}
-use Rattle.records.proofs.mark_at.Tie as tie
+use Rattle.following.proofs.mark_at.Statement.{statement}
+use Rattle.following.proofs.mark_at.Tie as tie
 
 array-read-t7 : tie.Need-array-read-t7
 array-read-t7 c = search needs

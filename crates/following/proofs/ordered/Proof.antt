@@ -1,10 +1,10 @@
--- `records::ordered` meets its contract. Assumes nothing.
+-- `following::ordered` meets its contract. Assumes nothing.
 use mathlib.Core.Path.{refl}
 use lib.Dec.{eqb}
 use borrow.Author.Tests.{eq-eqb, ne-eqb}
-use Rattle.records.proofs.Marks.{own-order}
-use Rattle.records.proofs.ordered.Statement.{statement}
-use Rattle.records.proofs.ordered.Tie as tie
+use Rattle.following.proofs.InTurn.{own-order}
+use Rattle.following.proofs.ordered.Statement.{statement}
+use Rattle.following.proofs.ordered.Tie as tie
 
 returns : tie.Need-returns
 returns c = rw (eq-eqb _ _ (c .if1 .taken)) refl
