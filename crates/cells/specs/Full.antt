@@ -31,9 +31,12 @@ pub record Cell : Type 0 where
 abbrev pub cell : ℕ → List ℕ → List ℕ → Cell
 cell k c ts = record { kind = k; corners = c; tets = ts }
 
+-- the cell of a template that a tuple of a mesh's vertices makes: every cell is built here
+abbrev pub cellIn : Mesh → Template → List ℕ → Cell
+cellIn m t c = cell (t .kind) c (numbersOf m t c)
+
 unfoldable pub cellsOf : Mesh → Template → List Cell
-cellsOf m t =
-    map (λ c. cell (t .kind) c (numbersOf m t c)) (keep (isCell m t) (universe (length (m .points)) t))
+cellsOf m t = map (cellIn m t) (keep (isCell m t) (universe (length (m .points)) t))
 
 -- kinds 8, 6, 5, and within a kind by the tuples in search order
 unfoldable pub fullList : Mesh → List Cell

@@ -11,11 +11,20 @@ use layout::Headed;
 use libc::STDERR_FILENO;
 use libc::STDIN_FILENO;
 use libc::STDOUT_FILENO;
+use record::Mark;
+use record::SIZE;
+use record::mark_of;
+use record::numbers_of;
 use records::Answer;
-use records::Mark;
-ghost use Prim.Native.Nat.{_/_, _≤_};
+ghost use Prim.Native.Nat.{_*_, _/_, _≤_};
 ghost use mathlib.Core.Path.{_≡_};
 ghost use lib.ListN.{length};
+ghost use Rattle.record.specs.Entries.{recordSize};
+
+// How many cells go into one call at most, and the entries of their records.
+const BATCH: usize = 4096;
+
+const ROOM: usize = BATCH * SIZE;
 
 // ---- writing; each line is put into a lent text of 65,536 bytes first
 
@@ -64,7 +73,7 @@ fn show_mesh(out: &mut [u8], file: &[u8]) -> bool
 fn show_mark(out: &mut [u8], m: Mark) -> bool
     requires { ⌜ length (now out) ≡ 65536 ⌝ }
 {
-    let numbers = [m.kind, m.a, m.b, m.c, m.d, m.e, m.f, m.g, m.h];
+    let numbers = numbers_of(m);
     show_numbers(out, b"mark", &numbers)
 }
 
@@ -80,7 +89,7 @@ fn flushed(out: &[u8], at: usize) -> usize
 
 // Writes the lines of the first `count` records.
 fn show_cells(out: &mut [u8], records: &[u16], count: usize) -> bool
-    requires { ⌜ (length (now out) ≡ 65536) × (count ≤ length (now records) / 35) ⌝ }
+    requires { ⌜ (length (now out) ≡ 65536) × (count ≤ length (now records) / recordSize) ⌝ }
 {
     let mut at = 0;
     let mut i = 0;
@@ -89,8 +98,8 @@ fn show_cells(out: &mut [u8], records: &[u16], count: usize) -> bool
         if next > 64000 {
             return false;
         }
-        let from = 35 * i;
-        let end = from + 35;
+        let from = SIZE * i;
+        let end = from + SIZE;
         at = lines::put_cell(out, next, &records[from..end]);
         i += 1;
     }
@@ -157,7 +166,7 @@ fn given(out: &mut [u8], file: &[u8], records: &[u16], before: u64, count: usize
 fn show_given(out: &mut [u8], records: &[u16], count: usize) -> bool
     requires { ⌜ length (now out) ≡ 65536 ⌝ }
 {
-    if count <= records.len() / 35 {
+    if count <= records.len() / SIZE {
         return show_cells(out, records, count);
     }
     false
@@ -194,7 +203,7 @@ fn batch(room: u64, done: u64) -> usize
         return 0;
     }
     let left = room - done;
-    if left < 4096 { left as usize } else { 4096 }
+    if left < 4096 { left as usize } else { BATCH }
 }
 
 // One call of the library, and what it gave written.
@@ -207,9 +216,9 @@ fn call(
     done: u64,
     room: u64,
 ) -> Step
-    requires { ⌜ (length (now out) ≡ 65536) × (length (now records) ≡ 143360) ⌝ }
+    requires { ⌜ (length (now out) ≡ 65536) × (length (now records) ≡ 4096 * recordSize) ⌝ }
 {
-    let end = 35 * batch(room, done);
+    let end = SIZE * batch(room, done);
     let part = &mut records[..end];
     let answer = listing::portion(file, mark, table, part);
     told(out, file, part, done, room, answer)
@@ -217,7 +226,7 @@ fn call(
 
 // Calls until the end or the room is reached. A loop has to end, so it counts down from a number that no run uses up.
 fn list(out: &mut [u8], file: &[u8], table: &mut [u16], records: &mut [u16], from: Mark, room: u64)
-    requires { ⌜ (length (now out) ≡ 65536) × (length (now records) ≡ 143360) ⌝ }
+    requires { ⌜ (length (now out) ≡ 65536) × (length (now records) ≡ 4096 * recordSize) ⌝ }
 {
     let mut mark = from;
     let mut done = 0;
@@ -247,10 +256,10 @@ fn table_room() -> [u16; 25089]
     [0; 25089]
 }
 
-fn record_room() -> [u16; 143360]
-    ensures { λ r. ⌜ 143360 ≡ length r ⌝ }
+fn record_room() -> [u16; ROOM]
+    ensures { λ r. ⌜ 4096 * recordSize ≡ length r ⌝ }
 {
-    [0; 143360]
+    [0; ROOM]
 }
 
 fn list_from(file: &[u8], from: Mark, room: u64) {
@@ -347,20 +356,6 @@ fn list_asked(file: &[u8]) {
         i += 1;
     }
     list_from(file, mark_of(numbers), room);
-}
-
-fn mark_of(n: [u16; 9]) -> Mark {
-    Mark {
-        kind: n[0],
-        a: n[1],
-        b: n[2],
-        c: n[3],
-        d: n[4],
-        e: n[5],
-        f: n[6],
-        g: n[7],
-        h: n[8],
-    }
 }
 
 fn run(file: &[u8]) {

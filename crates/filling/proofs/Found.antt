@@ -1,5 +1,5 @@
 -- The numbers of a mesh's tetrahedra that pass a test, found one after the other. Assumes nothing.
-use mathlib.Core.Path.{_≡_, refl, _∙_, ap}
+use mathlib.Core.Path.{_≡_, refl, sym, _∙_, ap}
 use mathlib.Core.Bool.{Bool, true, false, cond}
 use mathlib.Core.List.{List, [], _∷_, _++_, append-assoc, append-nil}
 use Prim.Native.Nat.{ℕ, suc, _+_, _-_, _≤_, _<_}
@@ -7,10 +7,12 @@ use native.Mathlib.Decide.{decLt}
 use native.Mathlib.Omega.{arith}
 use borrow.Author.Tests.{lt-ltb, le-ltb}
 use lib.Dec.{ltb}
-use lib.ListN.{length, take, set, length-append}
-use lib.Seq.{take-all, take-append-le, set-append-seam}
+use lib.ListN.{length, take, set, length-append, length-take}
+use lib.Seq.{take-all, take-at, take-append-le, set-append-seam}
 use Rattle.base.specs.Lists.{keep, upTo, pad}
 use Rattle.base.proofs.Runs.{upTo-more}
+use Rattle.record.specs.Entries.{tetPlaces, unused}
+use Rattle.record.proofs.Entries.{pad-length}
 use Rattle.filling.specs.declared.Tets.{Tets}
 use Rattle.filling.specs.Found.{Found, pushed}
 
@@ -30,18 +32,37 @@ module _ (b : ℕ → Bool) where
   pub keep-skip : (i : ℕ) → b i ≡ false → keep b (upTo (i + 1)) ≡ keep b (upTo i)
   keep-skip i t = ap (keep b) (upTo-more i) ∙ keep-last (upTo i) i ∙ rw (t, append-nil)
 
+-- the first place that is not used, filled
+padded-more : (p u : ℕ) (xs : List ℕ) (i : ℕ) → length xs < p → set (pad p u xs) (length xs) i ≡ pad p u (xs ++ (i ∷ []))
+padded-more p u xs i l =
+    let m : p - length xs ≡ suc (p - length (xs ++ (i ∷ []))) = omega (arith, length-append xs (i ∷ [])) in
+    rw (m, set-append-seam, append-assoc)
+
 -- one number more is found
 module _ {xs : List ℕ} {f : Tets} (h : Found xs f) (i : ℕ) where
-  list-more : Dec (length xs < 25) → cond (ltb (f .count) 25) (set (f .list) (f .count) i) (f .list) ≡ pad 25 65535 (take 25 (xs ++ (i ∷ [])))
+  list-more : Dec (length xs < tetPlaces) → cond (ltb (f .count) tetPlaces) (set (f .list) (f .count) i) (f .list) ≡ pad tetPlaces unused (take tetPlaces (xs ++ (i ∷ [])))
   list-more (yes l) =
-      let n : length (xs ++ (i ∷ [])) ≤ 25 = omega (arith, length-append xs (i ∷ [])) in
-      let m : 25 - length xs ≡ suc (25 - length (xs ++ (i ∷ []))) = omega (arith, length-append xs (i ∷ [])) in
-      rw (h .count, h .list, lt-ltb (length xs) 25 l, take-all 25 xs (omega arith), take-all 25 (xs ++ (i ∷ [])) n, m, set-append-seam, append-assoc)
+      let n : length (xs ++ (i ∷ [])) ≤ tetPlaces = omega (arith, length-append xs (i ∷ [])) in
+      rw (h .count, h .list, lt-ltb (length xs) tetPlaces l, take-all tetPlaces xs (omega arith), take-all tetPlaces (xs ++ (i ∷ [])) n) (padded-more tetPlaces unused xs i l)
   list-more (no l) =
-      rw (h .count, le-ltb (length xs) 25 (omega arith), take-append-le 25 xs (i ∷ []) (omega arith)) (h .list)
+      rw (h .count, le-ltb (length xs) tetPlaces (omega arith), take-append-le tetPlaces xs (i ∷ []) (omega arith)) (h .list)
 
   pub found-more : Found (xs ++ (i ∷ [])) (pushed f i)
-  found-more = record { count = rw (h .count, length-append xs (i ∷ [])); list = list-more (decLt (length xs) 25) }
+  found-more = record { count = rw (h .count, length-append xs (i ∷ [])); list = list-more (decLt (length xs) tetPlaces) }
+
+-- how many places there are, used or not
+pub listed : {xs : List ℕ} {f : Tets} → Found xs f → length (f .list) ≡ tetPlaces
+listed {xs} x = ap length (x .list) ∙ pad-length tetPlaces unused (take tetPlaces xs) (simp length-take (omega arith))
+
+-- where they suffice, the numbers stand first, and none after them
+module _ {xs : List ℕ} {f : Tets} (x : Found xs f) (h : f .count ≤ tetPlaces) where
+  pub found-all : take (f .count) (f .list) ≡ xs
+  found-all =
+      let k : length xs ≤ tetPlaces = omega (arith, x .count) in
+      rw (x .count, x .list, take-all tetPlaces xs k) (take-at xs _ (length xs) refl)
+
+  pub found-padded : f .list ≡ pad tetPlaces unused (take (f .count) (f .list))
+  found-padded = x .list ∙ ap (pad tetPlaces unused) (take-all tetPlaces xs (omega (arith, x .count)) ∙ sym found-all)
 
 -- the invariant of the loop that finds them
 pub record FoundUp (b : ℕ → Bool) (i : ℕ) (f : Tets) : Type 0 where

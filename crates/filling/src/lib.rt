@@ -12,14 +12,16 @@ ghost use Rattle.filling.specs.Found.{Found, pushed};
 ghost use Rattle.filling.specs.Next.{Hit, hasStamp, Stamped, Rising, Least, Passed, leftOut, Aside, Visited, NextOf, Reached};
 use around::row_of;
 use cells::corners4;
+use record::TET_PLACES;
+use record::UNUSED;
 use space::Tet;
 use space::Vertex;
 use templates::is_in;
 
-// How many tetrahedra a cell has, and the numbers of the first 25, rising; 65,535 where unused.
+// How many tetrahedra a cell has, and the numbers of the first, as many as a record has places for, rising.
 pub struct Tets {
     pub count: usize,
-    pub list: [u16; 25],
+    pub list: [u16; TET_PLACES],
 }
 
 // ---- a cell's tetrahedra
@@ -86,7 +88,7 @@ fn push(f: Tets, e: Tet) -> Tets
     let i = e.0;
     let k = f.count;
     let mut list = f.list;
-    if k < 25 {
+    if k < TET_PLACES {
         list[k] = i;
     }
     Tets { count: k + 1, list }
@@ -400,7 +402,7 @@ pub fn find(
     let mut places = no_places();
     let mut found = Tets {
         count: 0,
-        list: [65535; 25],
+        list: [UNUSED; TET_PLACES],
     };
     let mut i = next(labels, n, offsets, entries, 0, w, &m, &mut places, c, quads);
     while i < t {

@@ -10,7 +10,8 @@ use Rattle.base.specs.Laid.{Laid}
 use Rattle.base.proofs.Lay.{laid-more}
 use lib.Seq.{take-suc, length-take-le}
 use Rattle.base.specs.Lists.{spread}
-use Rattle.lines.specs.Text.{decimal, spaced, numbers, cornersText, tetsText, cellLine}
+use Rattle.record.specs.Entries.{cornerPlaces, tetPlaces, countAt, tetsAt}
+use Rattle.lines.specs.Text.{decimal, spaced, numbers, cornersText, tetsText, cellLine, cornersMost, tetsMost, lineMost}
 use Rattle.lines.proofs.Digits.{decimal-length}
 
 pub spaced-length : (x : ℕ) → length (spaced x) ≤ 21
@@ -40,21 +41,21 @@ part-length l i h = omega (arith, numbers-length (take i l), length-take-le i l 
 pub most-length : (l : List ℕ) (k most : ℕ) → k ≤ most → length (numbers (take k l)) ≤ 21 * most
 most-length l k most h = omega (arith, numbers-length (take k l), length-take k l)
 
-pub corners-length : (r : List ℕ) → length (cornersText r) ≤ 188
+pub corners-length : (r : List ℕ) → length (cornersText r) ≤ cornersMost
 unfolding cornersText
 corners-length r =
     omega (
       arith,
-      length-append (decimal (getD r 0 0)) (numbers (take (min (getD r 0 0) 8) (drop 1 r))),
+      length-append (decimal (getD r 0 0)) (numbers (take (min (getD r 0 0) cornerPlaces) (drop 1 r))),
       decimal-length (getD r 0 0),
-      most-length (drop 1 r) (min (getD r 0 0) 8) 8 (omega arith),
+      most-length (drop 1 r) (min (getD r 0 0) cornerPlaces) cornerPlaces (omega arith),
     )
 
-pub tets-length : (r : List ℕ) → length (tetsText r) ≤ 527
+pub tets-length : (r : List ℕ) → length (tetsText r) ≤ tetsMost
 unfolding tetsText
-tets-length r = omega (arith, most-length (drop 10 r) (min (getD r 9 0) 25) 25 (omega arith))
+tets-length r = omega (arith, most-length (drop tetsAt r) (min (getD r countAt 0) tetPlaces) tetPlaces (omega arith))
 
-pub line-length : (r : List ℕ) → length (cellLine r) ≤ 716
+pub line-length : (r : List ℕ) → length (cellLine r) ≤ lineMost
 unfolding cellLine
 line-length r =
     omega (

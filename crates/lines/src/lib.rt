@@ -1,10 +1,14 @@
 // The lines of a listing as text, put into a lent slice.
+use record::COUNT_AT;
+use record::TET_PLACES;
+use record::TETS_AT;
 ghost use mathlib.Core.Path.{_≡_};
 ghost use mathlib.Core.List.{[], _∷_};
 ghost use Prim.Native.Nat.{_+_, _*_, _≤_, min};
 ghost use lib.ListN.{length};
 ghost use Rattle.base.specs.Laid.{Laid};
-ghost use Rattle.lines.specs.Text.{decimal, spaced, numbers, cornersText, tetsText, cellLine};
+ghost use Rattle.record.specs.Entries.{recordSize};
+ghost use Rattle.lines.specs.Text.{decimal, spaced, numbers, cornersText, tetsText, cellLine, cornersMost, tetsMost, lineMost};
 
 // Puts a text from `from` on, and answers where the next goes.
 pub fn put_text(out: &mut [u8], from: usize, text: &[u8]) -> usize
@@ -66,7 +70,7 @@ fn at_most(x: u16, most: usize) -> usize
 
 // Puts a record's kind and corners.
 fn put_corners(out: &mut [u8], from: usize, cell: &[u16]) -> usize
-    requires { ⌜ (from + 188 ≤ length (now out)) × (length (now cell) ≡ 35) ⌝ }
+    requires { ⌜ (from + cornersMost ≤ length (now out)) × (length (now cell) ≡ recordSize) ⌝ }
     ensures next { λ r. ⌜ r ≡ from + length (cornersText (now (cell .entry))) ⌝ }
     ensures text { λ r. ⌜ Laid from (cornersText (now (cell .entry))) (now (out .entry)) (now (out .exit)) ⌝ }
 {
@@ -78,18 +82,18 @@ fn put_corners(out: &mut [u8], from: usize, cell: &[u16]) -> usize
 
 // Puts a record's tetrahedra, after a space and a colon.
 fn put_tets(out: &mut [u8], from: usize, cell: &[u16]) -> usize
-    requires { ⌜ (from + 527 ≤ length (now out)) × (length (now cell) ≡ 35) ⌝ }
+    requires { ⌜ (from + tetsMost ≤ length (now out)) × (length (now cell) ≡ recordSize) ⌝ }
     ensures next { λ r. ⌜ r ≡ from + length (tetsText (now (cell .entry))) ⌝ }
     ensures text { λ r. ⌜ Laid from (tetsText (now (cell .entry))) (now (out .entry)) (now (out .exit)) ⌝ }
 {
-    let end = 10 + at_most(cell[9], 25);
+    let end = TETS_AT + at_most(cell[COUNT_AT], TET_PLACES);
     let at = put_text(out, from, b" :");
-    put_numbers(out, at, &cell[10..end])
+    put_numbers(out, at, &cell[TETS_AT..end])
 }
 
 // Puts the line of a record, its line end with it.
 pub fn put_cell(out: &mut [u8], from: usize, cell: &[u16]) -> usize
-    requires { ⌜ (from + 720 ≤ length (now out)) × (length (now cell) ≡ 35) ⌝ }
+    requires { ⌜ (from + lineMost ≤ length (now out)) × (length (now cell) ≡ recordSize) ⌝ }
     ensures next { λ r. ⌜ r ≡ from + length (cellLine (now (cell .entry))) ⌝ }
     ensures text { λ r. ⌜ Laid from (cellLine (now (cell .entry))) (now (out .entry)) (now (out .exit)) ⌝ }
 {

@@ -22,10 +22,11 @@ use Rattle.portions.proofs.Run.{calls, ends}
 use Rattle.portions.proofs.Firm.{outcome-call, refusal-fails, calls-tell}
 use Rattle.rule.specs.Rule.{tetRule}
 use Rattle.rule.proofs.Full.{after-above, lawful, telling}
-use Rattle.records.specs.declared.Mark.{Mark}
+use Rattle.record.specs.declared.Mark.{Mark}
+use Rattle.record.specs.Marks.{markOf, letters}
 use Rattle.records.specs.declared.Answer.{Answer}
 use Rattle.records.specs.declared.Answer.the-variants.{Refused, Long, Given}
-use Rattle.records.specs.Marks.{markOf, letters, says, answerNumber}
+use Rattle.records.specs.Marks.{says, answerNumber}
 use Rattle.listing.specs.Portion.{barred, portionBy, Promised}
 use Rattle.listing.specs.Demands.{Demand2, Demand3, Called, none, last, more}
 use Rattle.listing.proofs.Promised.{bars-none}

@@ -11,6 +11,7 @@ use Rattle.cells.specs.Full.{fullList}
 use Rattle.neighbours.specs.Table.{tableOf}
 use Rattle.portions.specs.Portions.{portion}
 use Rattle.rule.specs.Rule.{tetRule}
+use Rattle.record.specs.Entries.{recordSize}
 use Rattle.records.specs.declared.Answer.{Answer}
 use Rattle.records.specs.declared.Answer.the-variants.{Refused}
 use Rattle.records.specs.Marks.{Written}
@@ -28,13 +29,13 @@ module _ (x : ℕ) (m : Mesh) (n : ℕ) where
   unfolding barred
   bars-table table room z h = rw (eq-eqb x 0 z, lt-ltb table (length (tableOf m n)) h)
 
-  pub bars-room : (table room : ℕ) → x ≡ 0 → length (tableOf m n) ≤ table → room < 35 → barred x m n table room ≡ 11
+  pub bars-room : (table room : ℕ) → x ≡ 0 → length (tableOf m n) ≤ table → room < recordSize → barred x m n table room ≡ 11
   unfolding barred
-  bars-room table room z h l = rw (eq-eqb x 0 z, le-ltb table (length (tableOf m n)) h, lt-ltb room 35 l)
+  bars-room table room z h l = rw (eq-eqb x 0 z, le-ltb table (length (tableOf m n)) h, lt-ltb room recordSize l)
 
-  pub bars-none : (table room : ℕ) → x ≡ 0 → length (tableOf m n) ≤ table → 35 ≤ room → barred x m n table room ≡ 0
+  pub bars-none : (table room : ℕ) → x ≡ 0 → length (tableOf m n) ≤ table → recordSize ≤ room → barred x m n table room ≡ 0
   unfolding barred
-  bars-none table room z h l = rw (eq-eqb x 0 z, le-ltb table (length (tableOf m n)) h, le-ltb room 35 l)
+  bars-none table room z h l = rw (eq-eqb x 0 z, le-ltb table (length (tableOf m n)) h, le-ltb room recordSize l)
 
   -- ---- what is promised
 

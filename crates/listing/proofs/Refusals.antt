@@ -15,6 +15,7 @@ use Rattle.cells.specs.Full.{fullList}
 use Rattle.neighbours.specs.Table.{tableOf}
 use Rattle.portions.specs.Portions.{reply, refused, given, after, records, lastMark, portionOf, portion}
 use Rattle.rule.specs.Rule.{tetRule}
+use Rattle.record.specs.Entries.{recordSize}
 use Rattle.records.specs.declared.Answer.{Answer}
 use Rattle.records.specs.declared.Answer.the-variants.{Refused, Long, Given}
 use Rattle.records.specs.Marks.{says, answerNumber}
@@ -66,8 +67,8 @@ module _ {x : ℕ} {m : Mesh} {n : ℕ} {k table room table′ room′ : List �
   only-twelve e = listed-number m k (length room) a (roomy e) (p .answered ∙ rw e)
     where
       roomy : barred x m n (length table) (length room) ≡ 0 → tetRule .size ≤ length room
-      roomy e = elim (decLt (length room) 35) [
-        | yes h ↦ go (eqb x 0) (ltb (length table) (length (tableOf m n))) refl (sym e ∙ rw (lt-ltb (length room) 35 h))
+      roomy e = elim (decLt (length room) recordSize) [
+        | yes h ↦ go (eqb x 0) (ltb (length table) (length (tableOf m n))) refl (sym e ∙ rw (lt-ltb (length room) recordSize h))
         | no h ↦ omega arith
       ]
         where

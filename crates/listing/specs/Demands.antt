@@ -13,11 +13,13 @@ use Rattle.once.specs.Once.{Once}
 use Rattle.neighbours.specs.Table.{tableOf}
 use Rattle.portions.specs.Portions.{given, after, records, readBack}
 use Rattle.portions.specs.Run.{Promise}
-use Rattle.rule.specs.Rule.{cellOf, tetRule}
-use Rattle.records.specs.declared.Mark.{Mark}
+use Rattle.record.specs.Entries.{cellOf}
+use Rattle.rule.specs.Rule.{tetRule}
+use Rattle.record.specs.declared.Mark.{Mark}
+use Rattle.record.specs.Marks.{markOf}
 use Rattle.records.specs.declared.Answer.{Answer}
 use Rattle.records.specs.declared.Answer.the-variants.{Given}
-use Rattle.records.specs.Marks.{markOf, says, answerNumber}
+use Rattle.records.specs.Marks.{says, answerNumber}
 use Rattle.listing.specs.Portion.{Portioned}
 
 -- ---- demand 2

@@ -1,8 +1,9 @@
 // The listing of a mesh file's cells: one portion at a time, from any mark on.
 use mesh::Checked;
 use neighbours::Filled;
+use record::Mark;
+use record::SIZE;
 use records::Answer;
-use records::Mark;
 ghost use mathlib.Core.Path.{_≡_};
 ghost use mathlib.Core.List.{[]};
 ghost use lib.Dec.{leb};
@@ -14,15 +15,17 @@ ghost use Rattle.mesh.specs.Check.{checked};
 ghost use Rattle.mesh.specs.declared.Checked.the-variants.{Accepted};
 ghost use Rattle.marks.specs.Marks.{places};
 ghost use Rattle.neighbours.specs.Reading.{Tabled};
-ghost use Rattle.records.specs.Marks.{markOf, Written};
+ghost use Rattle.record.specs.Entries.{recordSize};
+ghost use Rattle.record.specs.Marks.{markOf};
+ghost use Rattle.records.specs.Marks.{Written};
 ghost use Rattle.listing.specs.Portion.{Promised, Portioned};
 ghost use Rattle.listing.specs.Arrays.{Held};
 
 // The room holds a record at least.
 fn is_roomy(records: &[u16]) -> bool
-    ensures { λ r. ⌜ r ≡ leb 35 (length (now (records .entry))) ⌝ }
+    ensures { λ r. ⌜ r ≡ leb recordSize (length (now (records .entry))) ⌝ }
 {
-    35 <= records.len()
+    SIZE <= records.len()
 }
 
 // Indexes a mesh whose table is filled, marks its facets, and writes the records of its cells.
@@ -194,7 +197,7 @@ fn portion_accepted(
 }
 
 // The cells after a mark, as many as the room has whole records for. Refusals 1 to 9 of the file come first, then 10
-// where the table is too short, 11 where the room holds no record, 12 where a cell has more than 25 tetrahedra.
+// where the table is too short, 11 where the room holds no record, 12 where a cell has more tetrahedra than a record can hold.
 pub fn portion(file: &[u8], mark: Mark, table: &mut [u16], records: &mut [u16]) -> Answer
     ensures { λ r. ⌜ Portioned (now (file .entry)) (markOf mark) (now (table .entry)) (now (records .entry)) r (now (table .exit)) (now (records .exit)) ⌝ }
 {

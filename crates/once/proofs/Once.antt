@@ -16,7 +16,7 @@ use Rattle.templates.specs.Tables.{Place, Template, templates, at}
 use Rattle.space.specs.Mesh.{Mesh, Tetrahedron}
 use Rattle.cells.specs.Cells.{isCell, belongs, numbersFrom, numbersOf}
 use Rattle.cells.proofs.Conditions.{cell-corners}
-use Rattle.cells.specs.Full.{Cell, cell, allowed, grow, universe, cellsOf, fullList}
+use Rattle.cells.specs.Full.{Cell, cellIn, allowed, grow, universe, cellsOf, fullList}
 use Rattle.templates.specs.Least.{rises, risesAt, isLeast}
 use Rattle.once.specs.Once.{isTurn, none, Once}
 use Rattle.base.proofs.Lists.{both-left, both-right, all-at, any-at, keep-map, keep-spread}
@@ -186,29 +186,27 @@ module _ (m : Mesh) {t : Template} (member : List·Memᴰ t templates) where
   letters : List ℕ → List ℕ
   letters s = at s (t .places)
 
-  entryOf : List ℕ → Cell
-  entryOf c = cell (t .kind) c (numbersOf m t c)
 
   -- a turn of c that is in least form is the one least form
   only : (c r : List ℕ) {l : List ℕ} → keep (isLeast t) (map (at c) (t .turns)) ≡ l ∷ [] → List·Memᴰ r (t .turns) → isLeast t (at c r) ≡ true → at c r ≡ l
   only c r {l} q h e = List·Memᴰ·eq-of-singleton (subst (λ (x : List (List ℕ)). List·Memᴰ (at c r) x) q (keep-mem (isLeast t) (map (at c) (t .turns)) (map-mem (at c) (t .turns) h) e))
 
   test : List ℕ → List ℕ → Bool
-  test c d = isCell m t d && isTurn t c (entryOf d)
+  test c d = isCell m t d && isTurn t c (cellIn m t d)
 
   -- the cells of the kind of c that are turns of it
-  own : (c : List ℕ) → isCell m t c ≡ true → (r : List ℕ) × List·Memᴰ r (t .turns) × (keep (isTurn t c) (cellsOf m t) ≡ cell (t .kind) (at c r) (numbersOf m t c) ∷ [])
-  unfolding cellsOf universe entryOf letters test isTurn
+  own : (c : List ℕ) → isCell m t c ≡ true → (r : List ℕ) × List·Memᴰ r (t .turns) × (keep (isTurn t c) (cellsOf m t) ≡ cellIn m t (at c r) ∷ []) × (numbersOf m t (at c r) ≡ numbersOf m t c)
+  unfolding cellsOf universe letters test isTurn
   own c e = (
     w .0,
     w .1,
-    keep-map (isTurn t c) entryOf (keep (isCell m t) (map letters tuples))
-        ∙ ap (map entryOf)
-        (keep-keep (λ d. isTurn t c (entryOf d)) (isCell m t) (map letters tuples)
+    keep-map (isTurn t c) (cellIn m t) (keep (isCell m t) (map letters tuples))
+        ∙ ap (map (cellIn m t))
+        (keep-keep (λ d. isTurn t c (cellIn m t d)) (isCell m t) (map letters tuples)
         ∙ keep-map (test c) letters tuples
         ∙ ap (map letters) (grow-once allowed n (λ x. test c (letters x)) (t .search) [] u fit (ap (test c) back ∙ good) one))
-        ∙ ap (λ d. cell (t .kind) d (numbersOf m t d) ∷ []) back
-        ∙ ap (λ k. cell (t .kind) (at c (w .0)) k ∷ []) (same m member (w .1) c (cell-corners m t c e .long) .numbers),
+        ∙ ap (λ d. cellIn m t d ∷ []) back,
+    same m member (w .1) c (cell-corners m t c e .long) .numbers,
   )
     where
       n : ℕ
@@ -248,7 +246,7 @@ module _ (m : Mesh) {t : Template} (member : List·Memᴰ t templates) where
 -- ---- the full list
 
 module _ (m : Mesh) where
-  listed : {t : Template} → List·Memᴰ t templates → (c : List ℕ) → isCell m t c ≡ true → (r : List ℕ) × List·Memᴰ r (t .turns) × (keep (isTurn t c) (fullList m) ≡ cell (t .kind) (at c r) (numbersOf m t c) ∷ [])
+  listed : {t : Template} → List·Memᴰ t templates → (c : List ℕ) → isCell m t c ≡ true → (r : List ℕ) × List·Memᴰ r (t .turns) × (keep (isTurn t c) (fullList m) ≡ cellIn m t (at c r) ∷ []) × (numbersOf m t (at c r) ≡ numbersOf m t c)
   unfolding fullList differ cellsOf isTurn
   listed {t} h c e =
       let w = own m h c e in (
@@ -257,30 +255,31 @@ module _ (m : Mesh) where
         keep-spread (isTurn t c) (cellsOf m) templates
             ∙ spread-only (λ s. keep (isTurn t c) (cellsOf m s)) differ templates kinds h none
             ∙ w .2,
+        w .3,
       )
     where
       none : (s : Template) → List·Memᴰ s templates → (differ t s ≡ true) ⊎ (differ s t ≡ true) → keep (isTurn t c) (cellsOf m s) ≡ []
       none s k d =
           keep-none (isTurn t c) (cellsOf m s) (λ x g q.
-          let y = mem-map (λ c. cell (s .kind) c (numbersOf m s c)) (keep (isCell m s) (universe (length (m .points)) s)) g in
+          let y = mem-map (cellIn m s) (keep (isCell m s) (universe (length (m .points)) s)) g in
           let z : s .kind ≡ t .kind = ap (λ (x : Cell). x .kind) (sym (y .2)) ∙ eqb-true (x .kind) (t .kind) (both-left _ _ q) in
           ⊎-elim (λ b. eqb-false (t .kind) (s .kind) (not-true _ b) (sym z)) (λ b. eqb-false (s .kind) (t .kind) (not-true _ b) z) d)
 
   -- an entry comes from a tuple that grows
-  from-cell : {d : Cell} → List·Memᴰ d (fullList m) → (t : Template) × List·Memᴰ t templates × (isCell m t (d .corners) ≡ true) × (isLeast t (d .corners) ≡ true) × (d ≡ cell (t .kind) (d .corners) (numbersOf m t (d .corners)))
+  from-cell : {d : Cell} → List·Memᴰ d (fullList m) → (t : Template) × List·Memᴰ t templates × (isCell m t (d .corners) ≡ true) × (isLeast t (d .corners) ≡ true) × (d ≡ cellIn m t (d .corners))
   unfolding fullList cellsOf universe
   from-cell {d} h =
       let a = mem-spread (cellsOf m) templates h in
       let t = a .0 in
       let n = length (m .points) in
-      let b = mem-map (λ c. cell (t .kind) c (numbersOf m t c)) (keep (isCell m t) (map (λ s. at s (t .places)) (grow allowed n (t .search) []))) (a .2) in
+      let b = mem-map (cellIn m t) (keep (isCell m t) (map (λ s. at s (t .places)) (grow allowed n (t .search) []))) (a .2) in
       let q : d .corners ≡ b .0 = ap (λ (x : Cell). x .corners) (b .2) in
       let k = mem-keep (isCell m t) (map (λ s. at s (t .places)) (grow allowed n (t .search) [])) (b .1) in
       let g = mem-map (λ s. at s (t .places)) (grow allowed n (t .search) []) (k .0) in
       let f = grow-mem allowed n (t .search) [] (g .1) in
-      (t, a .1, ap (isCell m t) q ∙ k .1, ap (isLeast t) (q ∙ g .2 ∙ ap (λ s. at s (t .places)) (f .1)) ∙ fits-least (a .1) n (f .0) (f .2), b .2 ∙ ap (λ c. cell (t .kind) c (numbersOf m t c)) (sym q))
+      (t, a .1, ap (isCell m t) q ∙ k .1, ap (isLeast t) (q ∙ g .2 ∙ ap (λ s. at s (t .places)) (f .1)) ∙ fits-least (a .1) n (f .0) (f .2), b .2 ∙ ap (cellIn m t) (sym q))
 
-  entry : {d : Cell} → List·Memᴰ d (fullList m) → (t : Template) × List·Memᴰ t templates × (isCell m t (d .corners) ≡ true) × (isLeast t (d .corners) ≡ true) × (d ≡ cell (t .kind) (d .corners) (numbersOf m t (d .corners))) × (keep (isTurn t (d .corners)) (fullList m) ≡ d ∷ [])
+  entry : {d : Cell} → List·Memᴰ d (fullList m) → (t : Template) × List·Memᴰ t templates × (isCell m t (d .corners) ≡ true) × (isLeast t (d .corners) ≡ true) × (d ≡ cellIn m t (d .corners)) × (keep (isTurn t (d .corners)) (fullList m) ≡ d ∷ [])
   unfolding isTurn
   entry {d} h =
       let a = from-cell h in

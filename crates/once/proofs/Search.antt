@@ -12,9 +12,9 @@ use borrow.Author.Tests.{ltb-true}
 use Rattle.base.specs.Lists.{all, any, keep, spread, upTo, isIn, equal}
 use Rattle.templates.specs.Tables.{Place, Template, hexahedron, prism, pyramid, at}
 use Rattle.space.specs.Mesh.{Mesh, together}
-use Rattle.cells.specs.Cells.{isCell, hasEdges, numbersOf}
+use Rattle.cells.specs.Cells.{isCell, hasEdges}
 use Rattle.cells.proofs.Conditions.{cell-meets}
-use Rattle.cells.specs.Full.{cell, allowed, grow, universe, cellsOf, fullList}
+use Rattle.cells.specs.Full.{cellIn, allowed, grow, universe, cellsOf, fullList}
 use Rattle.once.specs.Pruned.{linked, found, foundAll}
 use Rattle.templates.proofs.Tests.{equal-eq}
 use Rattle.base.proofs.Bools.{or-either}
@@ -136,7 +136,7 @@ module _ (m : Mesh) (t : Template) (flat : (u : List ℕ) → hasEdges m t (at u
 
   found-is : arePlaces (edgesAt t) 0 (t .search) ≡ true → found m t ≡ cellsOf m t
   unfolding found cellsOf universe narrow letters
-  found-is e = ap (map (λ c. cell (t .kind) c (numbersOf m t c))) (kept e)
+  found-is e = ap (map (cellIn m t)) (kept e)
 
 pub found-hexahedra : (m : Mesh) → found m hexahedron ≡ cellsOf m hexahedron
 unfolding edgesAt arePlaces isPlace equal hasEdges

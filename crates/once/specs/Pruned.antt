@@ -7,8 +7,8 @@ use lib.ListN.{length, getD}
 use Rattle.base.specs.Lists.{all, keep, spread}
 use Rattle.templates.specs.Tables.{Place, Template, templates, at}
 use Rattle.space.specs.Mesh.{Mesh, together}
-use Rattle.cells.specs.Cells.{isCell, numbersOf}
-use Rattle.cells.specs.Full.{Cell, cell, allowed, grow}
+use Rattle.cells.specs.Cells.{isCell}
+use Rattle.cells.specs.Full.{Cell, cellIn, allowed, grow}
 
 -- v is a neighbour of the vertices that the place is joined to
 unfoldable pub linked : Mesh → Place → List ℕ → ℕ → Bool
@@ -16,7 +16,7 @@ linked m p s v = all (λ k. together m (getD s k 0 ∷ v ∷ [])) (p .joined)
 
 unfoldable pub found : Mesh → Template → List Cell
 found m t =
-    map (λ c. cell (t .kind) c (numbersOf m t c))
+    map (cellIn m t)
     (keep (isCell m t) (map (λ s. at s (t .places)) (grow (λ p s v. allowed p s v && linked m p s v) (length (m .points)) (t .search) [])))
 
 unfoldable pub foundAll : Mesh → List Cell

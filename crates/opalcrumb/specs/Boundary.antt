@@ -11,7 +11,8 @@ use Rattle.space.specs.declared.Boxed.{Boxed}
 use Rattle.space.specs.declared.Boxed.the-variants.{Value, Refused}
 use Rattle.records.specs.declared.Answer.{Answer}
 use Rattle.records.specs.declared.Answer.the-variants.{Refused as Barred, Long, Given}
-use Rattle.records.specs.Marks.{markOf, answerNumber}
+use Rattle.record.specs.Marks.{markOf, nine}
+use Rattle.records.specs.Marks.{answerNumber}
 use Rattle.listing.specs.Portion.{Portioned}
 use Rattle.templates.specs.declared.Least.{Least}
 use Rattle.templates.specs.declared.Least.the-variants.{Form, Refused as NoForm}
@@ -31,11 +32,6 @@ leastLeft (Form a b c d e f g h) old = a ∷ b ∷ c ∷ d ∷ e ∷ f ∷ g ∷
 leastLeft NoForm old = old
 
 -- ---- a portion: what an answer leaves in the places lent for the mark, the count and the end
-
--- the nine numbers of a mark
-abbrev pub nine : List ℕ → List ℕ
-nine xs =
-    getD xs 0 0 ∷ getD xs 1 0 ∷ getD xs 2 0 ∷ getD xs 3 0 ∷ getD xs 4 0 ∷ getD xs 5 0 ∷ getD xs 6 0 ∷ getD xs 7 0 ∷ getD xs 8 0 ∷ []
 
 -- the next mark, or the mark as it was
 abbrev pub markLeft : Answer → List ℕ → List ℕ

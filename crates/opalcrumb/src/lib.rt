@@ -2,8 +2,9 @@
 // A slice is a pointer and then a length. Every function answers 0, or the number of a refusal; what a refusal leaves
 // unchanged is said at each.
 use mesh::Checked;
+use record::mark_of;
+use record::numbers_of;
 use records::Answer;
-use records::Mark;
 use space::Boxed;
 use space::Point;
 use templates::Least;
@@ -12,8 +13,8 @@ ghost use lib.ListN.{length};
 ghost use Rattle.space.specs.Box.{boxed, boxNumber};
 ghost use Rattle.mesh.specs.Check.{refusal, number};
 ghost use Rattle.templates.specs.Least.{leastForm, leastNumber};
-ghost use Rattle.records.specs.Marks.{markOf, answerNumber};
-ghost use Rattle.opalcrumb.specs.Boundary.{pointOf, boxLeft, leastLeft, nine, markLeft, countLeft, endLeft, Passed};
+ghost use Rattle.records.specs.Marks.{answerNumber};
+ghost use Rattle.opalcrumb.specs.Boundary.{pointOf, boxLeft, leastLeft, markLeft, countLeft, endLeft, Passed};
 
 fn number_of(answer: Checked) -> u32
     ensures { λ r. ⌜ r ≡ number answer ⌝ }
@@ -100,28 +101,6 @@ pub extern "C" fn opalcrumb_least_form(kind: u16, corners: &[u16; 8], least: &mu
 }
 
 // ---- a portion
-
-fn mark_of(n: [u16; 9]) -> Mark
-    ensures { λ r. ⌜ markOf r ≡ nine n ⌝ }
-{
-    Mark {
-        kind: n[0],
-        a: n[1],
-        b: n[2],
-        c: n[3],
-        d: n[4],
-        e: n[5],
-        f: n[6],
-        g: n[7],
-        h: n[8],
-    }
-}
-
-fn numbers_of(m: Mark) -> [u16; 9]
-    ensures { λ r. ⌜ r ≡ markOf m ⌝ }
-{
-    [m.kind, m.a, m.b, m.c, m.d, m.e, m.f, m.g, m.h]
-}
 
 // An answer handed out: its number, and in the lent places what it tells.
 fn hand_out(answer: Answer, mark: &mut [u16; 9], count: &mut u32, end: &mut u32) -> u32

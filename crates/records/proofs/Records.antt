@@ -1,59 +1,44 @@
--- A record of the cell that a mark is of, and the loop that writes records.
+-- The record of the cell that was found, and the loop that writes records.
 -- Assumes nothing.
-use Prim.Native.Nat.{ℕ, _+_, _-_, _*_, _/_, _<_, _≤_}
+use Prim.Native.Nat.{ℕ, _+_, _*_, _/_, _<_, _≤_}
 use mathlib.Core.Path.{_≡_, refl, sym, _∙_, ap, ap₂, subst}
 use mathlib.Core.Bool.{Bool, true, false}
-use mathlib.Core.List.{List, [], _∷_, _++_, append-assoc}
-use lib.ListN.{length, getD, take, replicate, length-take, length-append, length-replicate}
-use lib.Seq.{take-all}
+use mathlib.Core.List.{List}
+use lib.ListN.{length, take}
 use native.Mathlib.Omega.{arith}
-use native.Mathlib.Decide.{decLt}
 use borrow.Author.Tests.{le-leb, lt-leb}
-use Rattle.base.specs.Lists.{pad}
 use Rattle.base.specs.Laid.{Laid}
 use Rattle.base.proofs.Lay.{laid-as}
 use Rattle.space.specs.Mesh.{Mesh}
-use Rattle.templates.specs.Tables.{pyramid, templateOf}
-use Rattle.cells.specs.Cells.{numbersOf}
-use Rattle.cells.specs.Full.{Cell, fullList}
+use Rattle.cells.specs.Full.{fullList}
+use Rattle.record.specs.declared.Mark.{Mark}
+use Rattle.record.specs.Entries.{tetPlaces, entries}
+use Rattle.record.specs.Marks.{markOf, told}
+use Rattle.record.proofs.Entries.{told-is}
 use Rattle.filling.specs.declared.Tets.{Tets}
-use Rattle.filling.specs.Found.{Found}
+use Rattle.filling.proofs.Found.{found-all}
 use Rattle.portions.specs.Portions as portions
 use Rattle.portions.specs.Portions.{reply, portion, records, remains}
 use Rattle.portions.specs.Steps.{Come}
-use Rattle.portions.proofs.Loop.{portion-short, portion-none, portion-full, portion-long, under-size, next-is, outcome-short, outcome-none, outcome-full, outcome-long, come-most, come-step, next-remains}
-use Rattle.rule.specs.Rule.{tetRule, entries}
-use Rattle.rule.proofs.Full.{lawful}
-use Rattle.rule.proofs.OneKind.{flat-pyramid}
-use Rattle.rule.proofs.Next.{later-all, later-own, pyramid-remains}
-use Rattle.glance.specs.Seen.{Seen}
-use Rattle.records.specs.declared.Mark.{Mark}
+use Rattle.portions.proofs.Loop.{portion-short, portion-none, portion-full, portion-long, under-size, next-is, outcome-short, outcome-none, outcome-full, outcome-long, come-step}
+use Rattle.rule.specs.Rule.{tetRule}
+use Rattle.rule.proofs.Full.{lawful, full-sane}
+use Rattle.following.specs.Following.{Came}
 use Rattle.records.specs.declared.Answer.the-variants.{Refused, Long, Given}
-use Rattle.records.specs.Marks.{letters, markOf, Written}
-use Rattle.records.specs.Records.{cornersOf, cellMarked, Came, headOf}
+use Rattle.records.specs.Marks.{Written}
 
--- ── a record ──
+-- ── the cell that was found ──
 
--- the places for tetrahedra, used or not
-pub listed : {xs : List ℕ} {f : Tets} → Found xs f → length (f .list) ≡ 25
-listed {xs} x =
-    let ys = take 25 xs in
-    let h : length ys ≤ 25 = simp length-take (omega arith) in
-    ap length (x .list) ∙ length-append ys (replicate (25 - length ys) 65535) ∙ omega (arith, length-replicate {A = ℕ} (25 - length ys) 65535)
+module _ (m : Mesh) {k j : List ℕ} {found : Bool} {f : Tets} (n : Came m k found j f) (y : found ≡ true) where
+  pub fits-few : f .count ≤ tetPlaces → tetRule .fits (n .cell) ≡ true
+  fits-few h = le-leb (length (n .cell .tets)) tetPlaces (omega (arith, n .tets y .count))
 
-module _ (m : Mesh) (j : List ℕ) {f : Tets} (x : Found (cellMarked m j .tets) f) where
-  pub fits-few : f .count ≤ 25 → tetRule .fits (cellMarked m j) ≡ true
-  fits-few h = le-leb (length (cellMarked m j .tets)) 25 (omega (arith, x .count))
+  pub fits-many : tetPlaces < f .count → tetRule .fits (n .cell) ≡ false
+  fits-many h = lt-leb (length (n .cell .tets)) tetPlaces (omega (arith, n .tets y .count))
 
-  pub fits-many : 25 < f .count → tetRule .fits (cellMarked m j) ≡ false
-  fits-many h = lt-leb (length (cellMarked m j .tets)) 25 (omega (arith, x .count))
-
-  pub record-is : f .count ≤ 25 → headOf j (f .count) ++ f .list ≡ entries (cellMarked m j)
-  unfolding headOf entries cellMarked
-  record-is h =
-      let xs = numbersOf m (templateOf (getD j 0 0)) (cornersOf j) in
-      append-assoc (getD j 0 0 ∷ pad 8 65535 (cornersOf j)) (f .count ∷ []) (f .list)
-      ∙ ap₂ (λ n l. (getD j 0 0 ∷ pad 8 65535 (cornersOf j)) ++ (n ∷ l)) (x .count) (x .list ∙ ap (pad 25 65535) (take-all 25 xs (omega (arith, x .count))))
+  -- its mark and its tetrahedra tell it
+  pub came-told : f .count ≤ tetPlaces → told j (take (f .count) (f .list)) ≡ n .cell
+  came-told h = ap₂ told (sym (n .marked y)) (found-all (n .tets y) h) ∙ told-is (n .cell) (full-sane m (n .next .among y) .cornered)
 
 -- ── the loop ──
 
@@ -88,27 +73,15 @@ module _ (m : Mesh) where
       }
 
     -- a cell is left, with room for it, that no record can hold
-    pub written-long : tetRule .size ≤ length old → {found : Bool} {j′ : List ℕ} {f : Tets} → Came m j found j′ f → found ≡ true → i < length old / tetRule .size → tetRule .fits (cellMarked m j′) ≡ false → Written m k old (Long i) l
-    written-long wide n t h u = record {
+    pub written-long : tetRule .size ≤ length old → {found : Bool} {j′ : List ℕ} {f : Tets} (n : Came m j found j′ f) → found ≡ true → i < length old / tetRule .size → tetPlaces < f .count → Written m k old (Long i) l
+    written-long wide n t h o = let u = fits-many m n t o in record {
       outcome = outcome-long tetRule (fullList m) (lawful m) x wide (n .next) t h u;
       plain = refl;
       counted = counted-as (portion-long tetRule (fullList m) (lawful m) wide (x .under) (next-is tetRule (fullList m) (lawful m) t (n .next)) (omega (arith, x .counted)) u);
     }
 
     -- one more record
-    pub come-on : {found : Bool} {j′ l′ : List ℕ} {f : Tets} → Came m j found j′ f → found ≡ true → i < length old / tetRule .size → tetRule .fits (cellMarked m j′) ≡ true → Laid (i * tetRule .size) (entries (cellMarked m j′)) l l′ → Come tetRule (fullList m) k old j′ (i + 1) l′
-    come-on {j′ = j′} {l′ = l′} n t h u d = subst (λ q. Come tetRule (fullList m) k old q (i + 1) l′) (n .marked) (come-step tetRule (fullList m) (lawful m) x (n .next) t h u d)
-
--- ── whether any cell is left ──
-
-module _ (m : Mesh) where
-  pub came-remains : {k j : List ℕ} {found : Bool} {f : Tets} → Came m k found j f → found ≡ remains tetRule (fullList m) k
-  came-remains n = next-remains tetRule (fullList m) (lawful m) (n .next)
-
-  -- by a pyramid that was seen
-  pub seen-remains : {lo : ℕ} (k : Mark) → Seen m lo → 5 ≤ k .kind → (k .kind ≡ 5 → lo ≡ k .a + 1) → true ≡ remains tetRule (fullList m) (markOf k)
-  seen-remains {lo} k s h f =
-      sym (pyramid-remains m (markOf k) (s .tuple) (s .leaf) (elim (decLt 5 (k .kind)) [
-        | yes g ↦ later-all m pyramid flat-pyramid (letters k) (s .tuple) g (s .leaf)
-        | no g ↦ let q : k .kind ≡ 5 = omega arith in later-own m pyramid flat-pyramid (letters k) (s .tuple) q (omega (arith, f q, s .first)) (s .leaf)
-      ]))
+    pub come-on : {found : Bool} {j′ l′ : List ℕ} {f : Tets} (n : Came m j found j′ f) → found ≡ true → i < length old / tetRule .size → f .count ≤ tetPlaces → Laid (i * tetRule .size) (entries (told j′ (take (f .count) (f .list)))) l l′ → Come tetRule (fullList m) k old j′ (i + 1) l′
+    come-on {l′ = l′} n y h o d =
+        subst (λ q. Come tetRule (fullList m) k old q (i + 1) l′) (n .marked y)
+        (come-step tetRule (fullList m) (lawful m) x (n .next) y h (fits-few m n y o) (laid-as d (ap entries (came-told m n y o))))

@@ -12,10 +12,11 @@ use Rattle.space.specs.Mesh.{Mesh}
 use Rattle.portions.specs.Portions as portions
 use Rattle.portions.specs.Portions.{refused, given}
 use Rattle.rule.specs.Rule.{tetRule}
-use Rattle.records.specs.declared.Mark.{Mark}
+use Rattle.record.specs.declared.Mark.{Mark}
+use Rattle.record.specs.Marks.{markOf}
 use Rattle.records.specs.declared.Answer.{Answer}
 use Rattle.records.specs.declared.Answer.the-variants.{Refused, Long, Given}
-use Rattle.records.specs.Marks.{markOf, says, wrote, isPlain, Written}
+use Rattle.records.specs.Marks.{says, wrote, isPlain, Written}
 
 -- the parts of what is said; a default where it has none
 abbrev refusal : portions.Answer → ℕ

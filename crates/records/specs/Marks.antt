@@ -1,9 +1,9 @@
--- Marks and answers as the code tells them.
+-- Answers as the code tells them.
 -- Assumes nothing.
 use Prim.Native.Nat.{ℕ, _*_}
 use mathlib.Core.Path.{_≡_}
 use mathlib.Core.Bool.{Bool, true}
-use mathlib.Core.List.{List, [], _∷_}
+use mathlib.Core.List.{List}
 use lib.Dec.{ltb}
 use lib.ListN.{length}
 use Rattle.space.specs.Mesh.{Mesh}
@@ -11,17 +11,10 @@ use Rattle.cells.specs.Full.{fullList}
 use Rattle.portions.specs.Portions.{portion, refused, given}
 use Rattle.portions.specs.Portions as portions
 use Rattle.portions.specs.Run.{Outcome}
+use Rattle.record.specs.Marks.{markOf}
 use Rattle.rule.specs.Rule.{tetRule}
-use Rattle.records.specs.declared.Mark.{Mark}
 use Rattle.records.specs.declared.Answer.{Answer}
 use Rattle.records.specs.declared.Answer.the-variants.{Refused, Long, Given}
-
--- the numbers of a mark, in letter order
-abbrev pub letters : Mark → List ℕ
-letters m = m .a ∷ m .b ∷ m .c ∷ m .d ∷ m .e ∷ m .f ∷ m .g ∷ m .h ∷ []
-
-abbrev pub markOf : Mark → List ℕ
-markOf m = m .kind ∷ letters m
 
 -- the answer by its number and values, as a portion has it
 abbrev pub says : Answer → portions.Answer

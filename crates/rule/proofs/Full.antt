@@ -1,28 +1,29 @@
--- The rule keeps to the laws: the full list rises, the start is before it and nine zeros after it, a record has 35 entries and tells its cell. And its order is the one of `comesAfter`.
+-- The rule keeps to the laws: the full list rises, the start is before it and nine zeros after it, a record has its size and tells its cell. And its order is the one of `comesAfter`.
 -- Assumes nothing.
-use Prim.Native.Nat.{ℕ, zero, suc, _+_, _-_, _<_, _≤_}
+use Prim.Native.Nat.{ℕ, zero, suc, _-_, _<_, _≤_}
 use mathlib.Core.Path.{_≡_, refl, sym, _∙_, ap, ap₂}
 use mathlib.Core.Logic.{_⊎_, inl, inr, ⊎-elim}
 use mathlib.Core.Bool.{Bool, true, false, cond, _&&_, _||_}
-use mathlib.Core.List.{List, [], _∷_, _++_, append-nil, append-assoc, List·Memᴰ, List·Memᴰ·append-cases}
+use mathlib.Core.List.{List, [], _∷_, _++_, append-nil, List·Memᴰ, List·Memᴰ·append-cases}
 use lib.Dec.{eqb, ltb}
-use lib.ListN.{length, getD, take, drop, replicate, length-append, length-replicate, length-map}
-use lib.Seq.{take-at, drop-at}
+use lib.ListN.{length, getD, replicate, length-map}
 use native.Mathlib.Omega.{arith}
 use native.Mathlib.Decide.{decLt}
-use borrow.Author.Tests.{lt-ltb, le-ltb, eq-eqb, ne-eqb, leb-true, ltb-true}
+use borrow.Author.Tests.{lt-ltb, le-ltb, eq-eqb, ne-eqb, ltb-true}
 use Rattle.base.specs.Lists.{all, keep, spread, pad}
 use Rattle.base.proofs.Lists.{both-left, both-right, all-from}
 use Rattle.base.proofs.Members.{keep-all, keep-none, keep-same, spread-at}
 use Rattle.space.specs.Mesh.{Mesh}
 use Rattle.templates.specs.Tables.{Template, hexahedron, prism, pyramid, templates, templateOf, at}
-use Rattle.cells.specs.Full.{Cell, cell, cellsOf, fullList}
+use Rattle.cells.specs.Full.{Cell, cellsOf, fullList}
+use Rattle.record.specs.Entries.{cornerPlaces, cellOf}
+use Rattle.record.proofs.Entries.{Cornered, entries-length, tells}
 use Rattle.portions.specs.Portions.{before, rises, isAfter, after, Lawful, Telling, readBack}
 use Rattle.portions.specs.Run.{Calls, Demand3}
 use Rattle.portions.proofs.Order.{before-less, before-cases, before-total, rises-append}
 use Rattle.portions.proofs.Run.{demand3}
 use Rattle.portions.proofs.Firm.{calls-tell}
-use Rattle.rule.specs.Rule.{key, entries, cellOf, tetRule, comesAfter}
+use Rattle.rule.specs.Rule.{key, tetRule, comesAfter}
 use Rattle.rule.proofs.OneKind.{upward, Flat, flat-hexahedron, flat-prism, flat-pyramid, flat-of, cells-rise, kind-at, corners-at}
 
 -- ── the full list ──
@@ -35,8 +36,7 @@ kinds-fall c d a b e f h l = before-less (65535 - c .kind) (65535 - d .kind) _ _
 pub record Sane (c : Cell) : Type 0 where
   pub low : 4 < c .kind
   pub high : c .kind < 9
-  pub sized : length (c .corners) ≡ templateOf (c .kind) .corners
-  pub few : length (c .corners) ≤ 8
+  pub cornered : Cornered c
 
 module _ (m : Mesh) where
   pub full-is : fullList m ≡ cellsOf m hexahedron ++ (cellsOf m prism ++ cellsOf m pyramid)
@@ -64,14 +64,11 @@ module _ (m : Mesh) where
   sane-of t f {c} h =
       let e = kind-at m t f h in
       let l = corners-at m t f h in
-      record { low = rw e (f .low); high = rw e (f .high); sized = l ∙ sym (ap (λ k. templateOf k .corners) e ∙ ap (λ u. u .corners) (f .known)); few = rw l (f .few) }
+      record { low = rw e (f .low); high = rw e (f .high); cornered = record { sized = l ∙ sym (ap (λ k. templateOf k .corners) e ∙ ap (λ u. u .corners) (f .known)); few = rw l (f .few) } }
 
   pub full-sane : {c : Cell} → List·Memᴰ c (fullList m) → Sane c
   unfolding fullList
   full-sane h = let x = spread-at (cellsOf m) templates h in sane-of (x .0) (flat-of (x .1)) (x .2)
-
-  pad-length : (k v : ℕ) (xs : List ℕ) → length xs ≤ k → length (pad k v xs) ≡ k
-  pad-length k v xs h = length-append xs (replicate (k - length xs) v) ∙ omega (arith, length-replicate (k - length xs) v)
 
   -- a mark of a kind above 8, as the start mark, has every cell after it, and one of a kind below 5, as nine zeros, none
   pub after-above : (k : ℕ) (vs : List ℕ) → 8 < k → after tetRule (fullList m) (k ∷ vs) ≡ fullList m
@@ -87,28 +84,17 @@ module _ (m : Mesh) where
       none c s false e = refl
 
   pub lawful : Lawful tetRule (fullList m)
-  unfolding entries
   lawful = record {
     some = omega arith;
-    sized = λ c h f. length-append (c .kind ∷ pad 8 65535 (c .corners)) _ ∙ ap₂ (λ a b. suc a + suc b) (pad-length 8 65535 (c .corners) (full-sane h .few)) (pad-length 25 65535 (c .tets) (leb-true _ _ f));
+    sized = λ c h f. entries-length c (full-sane h .cornered) f;
     rising = full-rises;
-    started = after-above 65535 (pad 8 0 []) (omega arith);
-    ended = after-below 0 (pad 8 0 []) (omega arith);
+    started = after-above 65535 _ (omega arith);
+    ended = after-below 0 _ (omega arith);
   }
 
   -- a record tells its cell
-  pub tells : (c : Cell) → Sane c → cellOf (entries c) ≡ c
-  unfolding entries cellOf
-  tells c s =
-      let front = pad 8 65535 (c .corners) in
-      let back = length (c .tets) ∷ pad 25 65535 (c .tets) in
-      let tail : drop 9 ((c .kind ∷ front) ++ back) ≡ back = drop-at (c .kind ∷ front) back 9 (ap suc (pad-length 8 65535 (c .corners) (s .few))) in
-      ap₂ (λ a b. cell (c .kind) a b)
-      (ap (take (templateOf (c .kind) .corners)) (append-assoc (c .corners) _ back) ∙ take-at (c .corners) _ (templateOf (c .kind) .corners) (s .sized))
-      (ap (λ l. take (getD l 0 0) (drop 1 l)) tail ∙ take-at (c .tets) _ (length (c .tets)) refl)
-
   abbrev pub telling : Telling tetRule (fullList m)
-  telling = record { cellOf = cellOf; tells = λ c h f. tells c (full-sane h) }
+  telling = record { cellOf = cellOf; tells = λ c h f. tells c (full-sane h .cornered) }
 
 -- demand 3 holds of the full list
 pub full-demand3 : (m : Mesh) → Demand3 tetRule (fullList m)
@@ -147,10 +133,10 @@ after-is k vs c h =
     o : List ℕ
     o = templateOf (c .kind) .order
 
-    same : k ≡ c .kind → (ltb (65535 - k) (65535 - c .kind) || (eqb (65535 - k) (65535 - c .kind) && before (at vs (templateOf k .order)) (at (pad 8 0 (c .corners)) o))) ≡ (ltb (c .kind) k || (eqb (c .kind) k && before (at vs o) (at (c .corners) o)))
+    same : k ≡ c .kind → (ltb (65535 - k) (65535 - c .kind) || (eqb (65535 - k) (65535 - c .kind) && before (at vs (templateOf k .order)) (at (pad cornerPlaces 0 (c .corners)) o))) ≡ (ltb (c .kind) k || (eqb (c .kind) k && before (at vs o) (at (c .corners) o)))
     same e =
         rw (le-ltb (65535 - k) (65535 - c .kind) (omega arith), le-ltb (c .kind) k (omega arith), eq-eqb (65535 - k) (65535 - c .kind) (omega arith), eq-eqb (c .kind) k (sym e))
-        (ap₂ before (ap (λ i. at vs (templateOf i .order)) e) (at-pad (c .corners) (8 - length (c .corners)) o))
+        (ap₂ before (ap (λ i. at vs (templateOf i .order)) e) (at-pad (c .corners) (cornerPlaces - length (c .corners)) o))
 
 pub full-after : (m : Mesh) (k : ℕ) (vs : List ℕ) → after tetRule (fullList m) (k ∷ vs) ≡ keep (comesAfter k vs) (fullList m)
 unfolding after

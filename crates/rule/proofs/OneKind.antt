@@ -18,9 +18,9 @@ use Rattle.templates.specs.Tables.{Template, hexahedron, prism, pyramid, templa
 use Rattle.templates.specs.Least.{isLeast, risesAt, rises as risesPair}
 use Rattle.templates.proofs.Tests.{agree, both, covers, at-all}
 use Rattle.templates.proofs.Turns.{cornerTests, corners-all, turned-distinct}
-use Rattle.cells.specs.Cells.{isCell, numbersOf}
+use Rattle.cells.specs.Cells.{isCell}
 use Rattle.cells.proofs.Conditions.{cell-corners}
-use Rattle.cells.specs.Full.{Cell, cell, allowed, grow, universe, cellsOf}
+use Rattle.cells.specs.Full.{Cell, cellIn, allowed, grow, universe, cellsOf}
 use Rattle.portions.specs.Portions.{before, rises, isAfter}
 use Rattle.portions.specs.Tuples.{Agree, Lt}
 use Rattle.portions.specs.Steps.{Kind}
@@ -97,9 +97,9 @@ module _ (m : Mesh) (t : Template) (flat : Flat t) where
   pub cells-rise : rises upward (cellsOf m t) ≡ true
   unfolding cellsOf universe isAfter candidates cellAt
   cells-rise =
-      rises-map upward (λ c. cell (t .kind) c (numbersOf m t c)) (keep (isCell m t) (universe (length (m .points)) t))
-      ∙ keep-rises (λ c d. upward (cell (t .kind) c (numbersOf m t c)) (cell (t .kind) d (numbersOf m t d))) (isCell m t) (universe (length (m .points)) t)
-      (rises-map (λ c d. upward (cell (t .kind) c (numbersOf m t c)) (cell (t .kind) d (numbersOf m t d))) (λ s. at s (t .places)) (candidates m t)
+      rises-map upward (cellIn m t) (keep (isCell m t) (universe (length (m .points)) t))
+      ∙ keep-rises (λ c d. upward (cellIn m t c) (cellIn m t d)) (isCell m t) (universe (length (m .points)) t)
+      (rises-map (λ c d. upward (cellIn m t c) (cellIn m t d)) (λ s. at s (t .places)) (candidates m t)
       ∙ rises-so before (λ s u. upward (cellAt m t s) (cellAt m t u)) (candidates m t)
       (λ s u g h e. ap₂ before (keyed s g) (keyed u h) ∙ before-same (65535 - t .kind) s u ∙ e)
       (grow-rises allowed (length (m .points)) (t .search) []))
@@ -108,14 +108,14 @@ module _ (m : Mesh) (t : Template) (flat : Flat t) where
   pub cells-at : {c : Cell} → List·Memᴰ c (cellsOf m t) → (s : List ℕ) × List·Memᴰ s (candidates m t) × (isCell m t (at s (t .places)) ≡ true) × (c ≡ cellAt m t s)
   unfolding cellsOf universe candidates cellAt
   cells-at h =
-      let r = map-at (λ c. cell (t .kind) c (numbersOf m t c)) (keep (isCell m t) (universe (length (m .points)) t)) h in
+      let r = map-at (cellIn m t) (keep (isCell m t) (universe (length (m .points)) t)) h in
       let k = keep-at (isCell m t) (universe (length (m .points)) t) (r .1) in
       let g = map-at (λ s. at s (t .places)) (candidates m t) (k .0) in
-      (g .0, g .1, ap (isCell m t) (sym (g .2)) ∙ k .1, r .2 ∙ ap (λ c. cell (t .kind) c (numbersOf m t c)) (g .2))
+      (g .0, g .1, ap (isCell m t) (sym (g .2)) ∙ k .1, r .2 ∙ ap (cellIn m t) (g .2))
 
   pub cells-has : (s : List ℕ) → List·Memᴰ s (candidates m t) → isCell m t (at s (t .places)) ≡ true → List·Memᴰ (cellAt m t s) (cellsOf m t)
   unfolding cellsOf universe candidates cellAt
-  cells-has s h e = map-has (λ c. cell (t .kind) c (numbersOf m t c)) _ (keep-has (isCell m t) (universe (length (m .points)) t) (map-has (λ s. at s (t .places)) (candidates m t) h) e)
+  cells-has s h e = map-has (cellIn m t) _ (keep-has (isCell m t) (universe (length (m .points)) t) (map-has (λ s. at s (t .places)) (candidates m t) h) e)
 
   pub kind-at : {c : Cell} → List·Memᴰ c (cellsOf m t) → c .kind ≡ t .kind
   unfolding cellAt
@@ -156,7 +156,7 @@ module _ (m : Mesh) (t : Template) (flat : Flat t) where
 
   front-cell : (s : List ℕ) → cellAt m t (front s) ≡ cellAt m t s
   unfolding cellAt front
-  front-cell s = ap (λ c. cell (t .kind) c (numbersOf m t c)) (flat .framed s)
+  front-cell s = ap (cellIn m t) (flat .framed s)
 
   -- the key of the cell that a tuple makes
   pub leaf-key : (s : List ℕ) → isLeaf m t s ≡ true → key (tetRule .mark (cellAt m t s)) ≡ (65535 - t .kind) ∷ at s (upTo (t .corners))

@@ -1,6 +1,6 @@
 -- Records and portions of the cells of the cube of five tetrahedra, computed by the definitions.
 -- Assumes nothing.
-use Prim.Native.Nat.{ℕ}
+use Prim.Native.Nat.{ℕ, _-_, _*_}
 use mathlib.Core.Path.{_≡_, refl}
 use mathlib.Core.Bool.{true, false}
 use mathlib.Core.List.{List, [], _∷_}
@@ -8,7 +8,8 @@ use lib.ListN.{take, drop}
 use Rattle.base.specs.Lists.{keep, spread}
 use Rattle.cells.specs.Full.{Cell, cell}
 use Rattle.portions.specs.Portions.{before, refused, given, Portion, reply, isAfter, after, records, lastMark, portionOf, portion}
-use Rattle.rule.specs.Rule.{key, entries, tetRule}
+use Rattle.record.specs.Entries.{recordSize, entries}
+use Rattle.rule.specs.Rule.{key, tetRule}
 
 abbrev cube : List Cell
 cube =
@@ -50,8 +51,8 @@ first : records tetRule (take 2 cube)
 unfolding records entries spread
 first = refl
 
--- room for 25, for 24 and then for one; a room of 34 entries and of 35; after nine zeros
-rows : (fromCube (tetRule .start) 875 ∷ fromCube (tetRule .start) 840 ∷ fromCube (5 ∷ 2 ∷ 5 ∷ 4 ∷ 7 ∷ 0 ∷ 9 ∷ 9 ∷ 9 ∷ []) 35 ∷ fromCube (tetRule .start) 34 ∷ fromCube (tetRule .start) 35 ∷ fromCube (tetRule .end) 35 ∷ [])
+-- room for 25 records, for 24 and then for one; a room one entry short of a record, and of a record; after nine zeros
+rows : (fromCube (tetRule .start) (25 * recordSize) ∷ fromCube (tetRule .start) (24 * recordSize) ∷ fromCube (5 ∷ 2 ∷ 5 ∷ 4 ∷ 7 ∷ 0 ∷ 9 ∷ 9 ∷ 9 ∷ []) recordSize ∷ fromCube (tetRule .start) (recordSize - 1) ∷ fromCube (tetRule .start) recordSize ∷ fromCube (tetRule .end) recordSize ∷ [])
     ≡ (reply (given 25 true (tetRule .end)) (records tetRule cube)
     ∷ reply (given 24 false (5 ∷ 2 ∷ 5 ∷ 4 ∷ 7 ∷ 0 ∷ 0 ∷ 0 ∷ 0 ∷ [])) (records tetRule (take 24 cube))
     ∷ reply (given 1 true (tetRule .end)) (records tetRule (drop 24 cube))

@@ -1,17 +1,18 @@
--- The rule of hexahedra, prisms and pyramids: marks, keys, records, and what a search of one kind looks for.
+-- The rule of hexahedra, prisms and pyramids: keys of marks, records, and what a search of one kind looks for.
 -- Assumes nothing.
 use Prim.Native.Nat.{ℕ, _-_, _<_}
 use mathlib.Core.Path.{_≡_}
 use mathlib.Core.Bool.{Bool, true, false, _&&_, _||_}
 use mathlib.Core.List.{List, [], _∷_, _++_}
-use lib.Dec.{eqb, ltb, leb}
-use lib.ListN.{length, getD, take, drop, replicate}
-use Rattle.base.specs.Lists.{pad}
+use lib.Dec.{eqb, ltb}
+use lib.ListN.{replicate}
 use Rattle.space.specs.Mesh.{Mesh}
 use Rattle.templates.specs.Tables.{Place, Template, templateOf, at}
 use Rattle.templates.specs.Least.{isLeast}
-use Rattle.cells.specs.Cells.{isCell, numbersOf}
-use Rattle.cells.specs.Full.{Cell, cell, allowed}
+use Rattle.cells.specs.Cells.{isCell}
+use Rattle.cells.specs.Full.{Cell, cellIn, allowed}
+use Rattle.record.specs.Entries.{recordSize, entries, fits}
+use Rattle.record.specs.Marks.{cellMark, startMark, endMark}
 use Rattle.portions.specs.Portions.{before, Rule}
 use Rattle.portions.specs.Tuples.{Agree, LeastAfter}
 
@@ -28,28 +29,15 @@ comesAfter k vs c =
     let o = templateOf (c .kind) .order in
     ltb (c .kind) k || (eqb (c .kind) k && before (at vs o) (at (c .corners) o))
 
--- ── records ──
-
--- the 35 entries of a cell that has at most 25 tetrahedra
-unfoldable pub entries : Cell → List ℕ
-entries c = (c .kind ∷ pad 8 65535 (c .corners)) ++ (length (c .tets) ∷ pad 25 65535 (c .tets))
-
--- the cell that entries tell
-unfoldable pub cellOf : List ℕ → Cell
-cellOf xs =
-    let k = getD xs 0 0 in
-    let tail = drop 9 xs in
-    cell k (take (templateOf k .corners) (drop 1 xs)) (take (getD tail 0 0) (drop 1 tail))
-
 abbrev pub tetRule : Rule Cell
 tetRule = record {
-  mark = λ c. c .kind ∷ pad 8 0 (c .corners);
+  mark = cellMark;
   key = key;
-  start = 65535 ∷ pad 8 0 [];
-  end = 0 ∷ pad 8 0 [];
-  size = 35;
+  start = startMark;
+  end = endMark;
+  size = recordSize;
   entries = entries;
-  fits = λ c. leb (length (c .tets)) 25;
+  fits = fits;
 }
 
 -- ── the search of one kind; a tuple's entries are in search order, and of a list the first count ──
@@ -65,9 +53,9 @@ goesOn n [] s (v ∷ u) = false
 goesOn n (p ∷ ps) s [] = false
 goesOn n (p ∷ ps) s (v ∷ u) = let r = goesOn n ps (s ++ (v ∷ [])) u in ltb v n && (allowed p s v && r)
 
--- the cell that a tuple makes
+-- the cell that a tuple in search order makes
 unfoldable pub cellAt : Mesh → Template → List ℕ → Cell
-cellAt m t s = cell (t .kind) (at s (t .places)) (numbersOf m t (at s (t .places)))
+cellAt m t s = cellIn m t (at s (t .places))
 
 -- the search of one kind for the mark of kind a with the numbers vs: none for a kind above the mark's, from vs on for its kind, and all of a kind below
 pub data Searched (m : Mesh) (t : Template) (a : ℕ) (vs : List ℕ) : Bool → List ℕ → Type 0 where

@@ -2,12 +2,12 @@
 use mathlib.Core.Path.{_≡_, refl, sym, _∙_, ap, subst}
 use mathlib.Core.Bool.{Bool, true, false, cond}
 use mathlib.Core.List.{List, [], _∷_, _++_}
-use Prim.Native.Nat.{ℕ, zero, suc, _+_, _-_, _*_, _/_, _≤_, _<_}
+use Prim.Native.Nat.{ℕ, zero, suc, _+_, _*_, _/_, _≤_, _<_}
 use native.Mathlib.Numerals.{add-one}
 use native.Mathlib.Omega.{arith}
-use lib.ListN.{length, getD, take, set, replicate, length-replicate, length-set, length-append}
-use lib.Seq.{length-take-le, take-all, take-at, take-suc-set}
-use Rattle.base.specs.Lists.{keep, from, upTo, pad}
+use lib.ListN.{length, getD, take, set, replicate, length-replicate, length-set}
+use lib.Seq.{length-take-le, take-suc-set}
+use Rattle.base.specs.Lists.{keep, from, upTo}
 use Rattle.around.specs.Build.{Within}
 use Rattle.cells.specs.Rows.{owns, ownNumbers}
 use Rattle.filling.specs.declared.Tets.{Tets}
@@ -36,17 +36,6 @@ module _ (ls ps : List ℕ) (qs : List (List ℕ)) (c : List ℕ) where
   pub listed-within : {xs : List ℕ} → xs ≡ ownNumbers ls qs c → length ps ≡ length ls / 4 → Within (length ls / 4) xs × Within (length ps) xs
   listed-within e p = (rw e numbers-within, rw (e, p) numbers-within)
 
--- at most 25 that are found stand first in the list
-pub found-all : {xs : List ℕ} {f : Tets} → Found xs f → f .count ≤ 25 → take (f .count) (f .list) ≡ xs
-found-all {xs} {f} h l =
-    let k : length xs ≤ 25 = omega (arith, h .count) in
-    rw (h .count, h .list, take-all 25 xs k) (take-at xs _ (length xs) refl)
-
-pub found-long : {xs : List ℕ} {f : Tets} → Found xs f → f .count ≤ 25 → f .count ≤ length (f .list)
-found-long {xs} {f} h l =
-    let k : length xs ≤ 25 = omega (arith, h .count) in
-    let e : f .list ≡ xs ++ replicate (25 - length xs) 65535 = rw (take-all 25 xs k) at (h .list) in
-    omega (arith, ap length e, length-append xs (replicate (25 - length xs) 65535), h .count)
 
 -- ---- all of them, gathered in an array of 2,048
 

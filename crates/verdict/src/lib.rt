@@ -11,6 +11,7 @@ ghost use Rattle.templates.specs.Tables.{Template, hexahedron, prism, pyramid, 
 ghost use Rattle.templates.specs.Flat.{pairs};
 ghost use Rattle.cells.specs.Cells.{isCell, firstFailing};
 ghost use Rattle.cells.specs.Rows.{fours, ownNumbers};
+ghost use Rattle.record.specs.Entries.{tetPlaces};
 ghost use Rattle.filling.specs.Found.{Found};
 ghost use Rattle.counting.specs.Noted.{Lettered};
 ghost use Rattle.verdict.specs.Judged.{TablesOf, lastWith, lastFailing, isSolid, Tells};
@@ -27,6 +28,8 @@ use filling::Tets;
 use filling::belongs_to;
 use filling::find;
 pub use leaf::is_leaf;
+use record::TET_PLACES;
+use record::UNUSED;
 use space::Tet;
 use templates::HEX_EDGES;
 use templates::HEX_INSIDE;
@@ -113,7 +116,7 @@ fn judge_many(
     )
 }
 
-// Of a cell with at most 25, which were found.
+// Of a cell all of whose tetrahedra stand in the list that was found.
 fn judge_few(
     labels: &[u16],
     parts: &[u16],
@@ -123,13 +126,13 @@ fn judge_few(
     quads: &[u8],
     within: &[u8],
 ) -> u8
-    requires { ⌜ Found (ownNumbers (now labels) (fours (now quads)) (now c)) found × ((found .count ≤ 25) × (length (now parts) ≡ length (now labels) / 4)) ⌝ }
+    requires { ⌜ Found (ownNumbers (now labels) (fours (now quads)) (now c)) found × ((found .count ≤ tetPlaces) × (length (now parts) ≡ length (now labels) / 4)) ⌝ }
     requires { ⌜ Lettered (now triangles) (now quads) (now within) ⌝ }
     ensures { λ r. ⌜ r ≡ lastFailing (now (labels .entry)) (now (parts .entry)) (now (c .entry)) (now (triangles .entry)) (now (quads .entry)) (now (within .entry)) ⌝ }
 {
     let k = found.count;
     let list = found.list;
-    let mut has = [0u8; 200];
+    let mut has = [0u8; 8 * TET_PLACES];
     judge_list(
         labels,
         parts,
@@ -157,7 +160,7 @@ fn judge_found(
     requires { ⌜ Lettered (now triangles) (now quads) (now within) ⌝ }
     ensures { λ r. ⌜ r ≡ lastFailing (now (labels .entry)) (now (parts .entry)) (now (c .entry)) (now (triangles .entry)) (now (quads .entry)) (now (within .entry)) ⌝ }
 {
-    if found.count <= 25 {
+    if found.count <= TET_PLACES {
         judge_few(labels, parts, found, c, triangles, quads, within)
     } else {
         judge_many(labels, parts, c, triangles, quads, within)
@@ -363,7 +366,7 @@ pub fn judge(
 pub fn no_tets() -> Tets {
     Tets {
         count: 0,
-        list: [65535; 25],
+        list: [UNUSED; TET_PLACES],
     }
 }
 

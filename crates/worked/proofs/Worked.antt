@@ -21,7 +21,8 @@ use Rattle.once.specs.Rows.{meshP, meshC, listC}
 use Rattle.once.proofs.Worked as found
 use Rattle.neighbours.specs.Table.{rowOf, rowsOf, offsets, tableBy, neighboursOf, tableOf}
 use Rattle.portions.specs.Portions.{Portion, reply, refused, before, isAfter, after, records, lastMark, portionOf, portion}
-use Rattle.rule.specs.Rule.{key, entries, tetRule}
+use Rattle.record.specs.Entries.{entries}
+use Rattle.rule.specs.Rule.{key, tetRule}
 use Rattle.records.specs.declared.Answer.{Answer}
 use Rattle.records.specs.Marks.{says}
 use Rattle.listing.specs.Portion.{barred, portionBy, tableLeft, Portioned}

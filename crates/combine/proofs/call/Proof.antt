@@ -3,6 +3,7 @@ use mathlib.Core.Path.{sym}
 use Prim.Native.Nat.{_*_}
 use native.Mathlib.Omega.{arith}
 use lib.Seq.{length-take-le}
+use Rattle.record.specs.Entries.{recordSize}
 use borrow.Author.Needs.{needs}
 use Rattle.combine.proofs.call.Statement.{statement}
 use Rattle.combine.proofs.call.Tie as tie
@@ -26,7 +27,7 @@ slice-relend-prefix-part c = search needs
 
 -- src/main.rt:213:9
 slice-aggregate-part : tie.Need-slice-aggregate-part
-slice-aggregate-part c = sym (length-take-le (35 * c .before .batch .result) (c .before .before .before .before .before .before .args .records .now) (omega arith))
+slice-aggregate-part c = sym (length-take-le (recordSize * c .before .batch .result) (c .before .before .before .before .before .before .args .records .now) (omega arith))
 
 -- src/main.rt:214:9
 portion-requires : tie.Need-portion-requires

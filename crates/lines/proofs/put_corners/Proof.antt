@@ -10,45 +10,31 @@ use Rattle.lines.proofs.Numbers.{behind}
 use borrow.Author.Needs.{needs}
 use Rattle.lines.proofs.put_corners.Statement.{statement}
 use Rattle.lines.proofs.put_corners.Tie as tie
-use Rattle.lines.proofs.put_corners.Reads as reads
-use Rattle.lines.proofs.put_corners.Lts as lts
-use Rattle.lines.proofs.at_most.Reads as at-most-reads
-use Rattle.lines.proofs.put_decimal.Reads as put-decimal-reads
-use Rattle.lines.proofs.put_numbers.Reads as put-numbers-reads
 
--- src/lib.rt:73:16
 shared-slice-read-kind : tie.Need-shared-slice-read-kind
 shared-slice-read-kind c = search needs
 
--- src/lib.rt:74:19
 at-most-requires : tie.Need-at-most-requires
 at-most-requires c κs = search needs
 
--- src/lib.rt:74:15
 add-end : tie.Need-add-end
 add-end c = search needs
 
--- src/lib.rt:75:37
 cast-put-decimal : tie.Need-cast-put-decimal
 cast-put-decimal c = omega (arith, c .before .before .shared-slice-known2 .given 0)
 
--- src/lib.rt:75:9
 put-decimal-requires : tie.Need-put-decimal-requires
 put-decimal-requires c κs = search needs
 
--- src/lib.rt:76:26
 sub-put-numbers : tie.Need-sub-put-numbers
 sub-put-numbers c = search needs
 
--- src/lib.rt:76:26
 part-put-numbers-start : tie.Need-part-put-numbers-start
 part-put-numbers-start c = search needs
 
--- src/lib.rt:76:26
 part-put-numbers-end : tie.Need-part-put-numbers-end
 part-put-numbers-end c = search needs
 
--- src/lib.rt:76:5
 put-numbers-requires : tie.Need-put-numbers-requires
 put-numbers-requires c κs =
     let cell = c .before .before .before .before .before .before .before .before .before .before .args .cell .now in
@@ -56,11 +42,9 @@ put-numbers-requires c κs =
     let d = c .before .before .before .before .put-decimal .ensures in
     omega (arith, k .ensures .1, d .0, decimal-length (getD cell 0 0), length-take (1 + k .result - 1) (drop 1 cell), d .1 .same)
 
--- src/lib.rt:68:1
 same-length : tie.Need-same-length
 same-length c = search needs
 
--- src/lib.rt:68:1
 returns : tie.Need-returns
 unfolding cornersText
 returns c =

@@ -8,35 +8,26 @@ use Rattle.lines.proofs.Digits.{decimal-is, decimal-length}
 use borrow.Author.Needs.{needs}
 use Rattle.lines.proofs.put_decimal.Statement.{statement}
 use Rattle.lines.proofs.put_decimal.Tie as tie
-use Rattle.lines.proofs.put_decimal.Reads as reads
-use Rattle.lines.proofs.put_decimal.Lts as lts
 use Rattle.io.proofs.decimal.Reads as decimal-reads
-use Rattle.lines.proofs.put_text.Reads as put-text-reads
 
--- src/lib.rt:30:9
 decimal-requires : tie.Need-decimal-requires
 decimal-requires c κs = search needs
 
--- src/lib.rt:31:25
 array-share-prefix-digits : tie.Need-array-share-prefix-digits
 array-share-prefix-digits c = search needs
 
--- src/lib.rt:31:25
 slice-aggregate-put-text : tie.Need-slice-aggregate-put-text
 slice-aggregate-put-text c = search needs
 
--- src/lib.rt:31:5
 put-text-requires : tie.Need-put-text-requires
 put-text-requires c κs =
     let d = c .before .before .decimal in
     let e = decimal-is (search needs) (d .ensures .1 .0) (d .ensures .1 .1) in
     omega (arith, ap length e, decimal-length (c .before .before .before .before .before .args .x))
 
--- src/lib.rt:24:1
 same-length : tie.Need-same-length
 same-length c = search needs
 
--- src/lib.rt:24:1
 returns : tie.Need-returns
 returns c =
     let d = c .before .before .before .before .before .decimal in

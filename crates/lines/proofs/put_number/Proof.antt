@@ -6,28 +6,19 @@ use Rattle.lines.specs.Text.{spaced}
 use borrow.Author.Needs.{needs}
 use Rattle.lines.proofs.put_number.Statement.{statement}
 use Rattle.lines.proofs.put_number.Tie as tie
-use Rattle.lines.proofs.put_number.Reads as reads
-use Rattle.lines.proofs.put_number.Lts as lts
-use Rattle.lines.proofs.put_decimal.Reads as put-decimal-reads
-use Rattle.lines.proofs.put_text.Reads as put-text-reads
 
--- src/lib.rt:55:34
 slice-aggregate-put-text : tie.Need-slice-aggregate-put-text
 slice-aggregate-put-text c = search needs
 
--- src/lib.rt:55:9
 put-text-requires : tie.Need-put-text-requires
 put-text-requires c κs = search needs
 
--- src/lib.rt:56:5
 put-decimal-requires : tie.Need-put-decimal-requires
 put-decimal-requires c κs = search needs
 
--- src/lib.rt:50:1
 same-length : tie.Need-same-length
 same-length c = search needs
 
--- src/lib.rt:50:1
 returns : tie.Need-returns
 unfolding spaced
 returns c =

@@ -4,6 +4,7 @@ use native.Mathlib.Omega.{arith}
 use borrow.Author.Tests.{leb-true, leb-false}
 use lib.ListN.{length}
 use Rattle.space.specs.Arrays.{meshOf}
+use Rattle.record.specs.Entries.{recordSize}
 use Rattle.listing.proofs.Promised.{bars-table, bars-room, bars-none, promised-refused, promised-written}
 use Rattle.listing.proofs.Filled.{says-short, says-long, stays-short, filled-long, tabled}
 use borrow.Author.Needs.{needs}
@@ -65,7 +66,7 @@ returns-2 c =
     let a = s .args in
     let l = says-long (a .coords .now) (a .labels .now) (a .parts .now) (a .n) (length (a .table .now)) (sym (c .before .before .before .before .before .before .before .before .before .before .before .before .before .before .before .enum-told2 .given .1) ∙ c .before .before .before .before .before .before .before .before .before .before .before .before .before .before .before .before .before .before .before .fill-if .ensures .0) in
     promised-written 0 (meshOf (a .coords .now) (a .labels .now) (a .parts .now)) (a .n) _ (a .table .now) (a .records .now)
-    (bars-none 0 (meshOf (a .coords .now) (a .labels .now) (a .parts .now)) (a .n) (length (a .table .now)) (length (a .records .now)) refl l (leb-true 35 _ (sym (c .before .before .before .before .before .before .before .before .before .before .before .before .before .before .before .before .before .before .before .before .before .is-roomy .ensures) ∙ c .before .before .before .before .before .before .before .before .before .before .before .before .before .before .if1 .taken)))
+    (bars-none 0 (meshOf (a .coords .now) (a .labels .now) (a .parts .now)) (a .n) (length (a .table .now)) (length (a .records .now)) refl l (leb-true recordSize _ (sym (c .before .before .before .before .before .before .before .before .before .before .before .before .before .before .before .before .before .before .before .before .before .is-roomy .ensures) ∙ c .before .before .before .before .before .before .before .before .before .before .before .before .before .before .if1 .taken)))
     (filled-long (a .coords .now) (a .labels .now) (a .parts .now) (a .n) (a .table .now) (c .before .before .before .before .before .before .before .before .before .before .before .before .before .before .before .before .before .before .before .before .before .is-roomy .result) (c .before .before .before .before .before .before .before .before .before .before .before .before .before .before .if1 .taken) l (c .before .before .before .before .before .before .before .before .before .before .before .before .before .before .before .before .before .before .before .fill-if .ensures .1))
     (c .before .before .before .before .before .before .before .before .write-listed .ensures)
 
@@ -81,7 +82,7 @@ returns-3 c =
     let a = s .args in
     let l = says-long (a .coords .now) (a .labels .now) (a .parts .now) (a .n) (length (a .table .now)) (sym (c .before .enum-told2 .given .1) ∙ c .before .before .before .before .before .fill-if .ensures .0) in
     promised-refused 0 (meshOf (a .coords .now) (a .labels .now) (a .parts .now)) (a .n) _ (a .table .now) (a .records .now) 11
-    (bars-room 0 (meshOf (a .coords .now) (a .labels .now) (a .parts .now)) (a .n) (length (a .table .now)) (length (a .records .now)) refl l (leb-false 35 _ (sym (c .before .before .before .before .before .before .before .is-roomy .ensures) ∙ c .if1 .left)))
+    (bars-room 0 (meshOf (a .coords .now) (a .labels .now) (a .parts .now)) (a .n) (length (a .table .now)) (length (a .records .now)) refl l (leb-false recordSize _ (sym (c .before .before .before .before .before .before .before .is-roomy .ensures) ∙ c .if1 .left)))
     (omega arith) (omega arith)
     (c .before .before .before .before .before .fill-if .ensures .1 ∙ rw (c .if1 .left))
 

@@ -5,15 +5,16 @@ use lib.ListN.{length}
 use native.Mathlib.Omega.{arith}
 use borrow.Author.Tests.{not-true, not-false}
 use borrow.Author.Needs.{needs}
-use Rattle.base.proofs.Lay.{laid-as}
 use Rattle.space.specs.Arrays.{meshOf}
 use Rattle.cells.specs.Full.{fullList}
 use Rattle.portions.specs.Steps.{Come}
 use Rattle.portions.proofs.Loop.{come-start, come-most}
 use Rattle.rule.specs.Rule.{tetRule}
 use Rattle.rule.proofs.Full.{lawful}
-use Rattle.records.specs.Marks.{markOf}
-use Rattle.records.proofs.Records.{listed, fits-few, fits-many, record-is, written-short, written-none, written-full, written-long, come-on, came-remains}
+use Rattle.record.specs.Marks.{markOf}
+use Rattle.filling.proofs.Found.{found-padded}
+use Rattle.following.proofs.Left.{came-remains}
+use Rattle.records.proofs.Records.{written-short, written-none, written-full, written-long, come-on}
 use Rattle.records.proofs.write_cells.Statement.{statement}
 use Rattle.records.proofs.write_cells.Tie as tie
 
@@ -74,34 +75,30 @@ returns-5 c =
     let s = c .before .before .before .before .before .before .next-cell .ensures in
     written-long _ (l .inv) (omega arith) s y
     (omega (arith, come-most tetRule _ (lawful _) (l .inv), c .before .before .before .before .before .before .before .if2 .left))
-    (fits-many _ _ (s .tets y) (c .if5 .taken))
+    (omega (arith, c .if5 .taken))
 
 -- past the tests there is room for one record more
 below : (c : tie.Else5 Inv-loop μ-loop) → c .before .before .before .before .before .before .before .before .loop .i < length (c .before .before .before .before .before .before .before .before .before .before .before .before .before .before .before .before .before .before .args .records .now) / tetRule .size
 below c = omega (arith, come-most tetRule _ (lawful _) (c .before .before .before .before .before .before .before .before .loop .inv), c .before .before .before .before .before .before .before .if2 .left)
 
-mul-put-record : tie.Need-mul-put-record Inv-loop μ-loop
-mul-put-record c = omega (arith, below (c .before), c .before .before .before .before .before .before .before .before .before .before .before .before .before .before .before .before .before .before .before .good .1 .1 .1 .1 .1 .1 .1 .1 .1 .1 .0 .0)
-
 put-record-requires : tie.Need-put-record-requires Inv-loop μ-loop
 put-record-requires c κs =
-    let d = c .before in
-    (omega (arith, d .if5 .left), (listed (d .before .before .before .before .before .before .next-cell .ensures .tets (not-false _ (d .before .before .before .before .if4 .left))), omega (arith, below d, d .before .before .before .before .before .before .before .before .loop .inv .laid .same)))
+    let d = c .before .before in
+    let y = not-false _ (d .before .before .before .before .if4 .left) in
+    ((omega (arith, d .if5 .left), found-padded (d .before .before .before .before .before .before .next-cell .ensures .tets y) (omega (arith, d .if5 .left))), omega (arith, below d, d .before .before .before .before .before .before .before .before .loop .inv .laid .same))
 
 add-i : tie.Need-add-i Inv-loop μ-loop
-add-i c = omega (arith, below (c .before .before .before .before), c .before .before .before .before .before .before .before .before .before .before .before .before .before .before .before .before .before .before .before .before .before .before .good .1 .1 .1 .1 .1 .1 .1 .1 .1 .1 .0 .0)
+add-i c = omega (arith, below (c .before .before .before .before .before), c .before .before .before .before .before .before .before .before .before .before .before .before .before .before .before .before .before .before .before .before .before .before .before .good .1 .1 .1 .1 .1 .1 .1 .1 .1 .1 .0 .0)
 
 loop-less : tie.Need-loop-less Inv-loop μ-loop
-loop-less c = omega (arith, below (c .before .before .before .before))
+loop-less c = omega (arith, below (c .before .before .before .before .before))
 
 loop-again : tie.Need-loop-again Inv-loop μ-loop
 loop-again c =
-    let d = c .before .before .before .before in
+    let d = c .before .before .before .before .before in
     let y = not-false _ (d .before .before .before .before .if4 .left) in
     let s = d .before .before .before .before .before .before .next-cell .ensures in
-    come-on _ (d .before .before .before .before .before .before .before .before .loop .inv) s y (below d)
-    (fits-few _ _ (s .tets y) (omega (arith, d .if5 .left)))
-    (laid-as (c .before .before .put-record .ensures) (record-is _ _ (s .tets y) (omega (arith, d .if5 .left))))
+    come-on _ (d .before .before .before .before .before .before .before .before .loop .inv) s y (below d) (omega (arith, d .if5 .left)) (c .before .before .put-record .ensures)
 
 pub write-cells-spec : {M : Type 1} → statement M
 write-cells-spec =
@@ -123,7 +120,6 @@ write-cells-spec =
     returns-4
     same-length-4
     returns-5
-    mul-put-record
     put-record-requires
     add-i
     loop-less

@@ -1,9 +1,9 @@
--- `records::is_any_left` meets its contract. Assumes nothing.
+-- `following::is_any_left` meets its contract. Assumes nothing.
 use native.Mathlib.Omega.{arith}
 use borrow.Author.Needs.{needs}
-use Rattle.records.proofs.Records.{came-remains, seen-remains}
-use Rattle.records.proofs.is_any_left.Statement.{statement}
-use Rattle.records.proofs.is_any_left.Tie as tie
+use Rattle.following.proofs.Left.{came-remains, seen-remains}
+use Rattle.following.proofs.is_any_left.Statement.{statement}
+use Rattle.following.proofs.is_any_left.Tie as tie
 
 first-after-requires : tie.Need-first-after-requires
 first-after-requires c κs = search needs

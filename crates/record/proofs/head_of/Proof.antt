@@ -1,10 +1,10 @@
--- `records::head_of` meets its contract. Assumes nothing.
+-- `record::head_of` meets its contract. Assumes nothing.
 use mathlib.Core.Path.{refl}
 use borrow.Author.Tests.{eq-eqb, ne-eqb}
 use borrow.Author.Needs.{needs}
-use Rattle.records.specs.Records.{headOf}
-use Rattle.records.proofs.head_of.Statement.{statement}
-use Rattle.records.proofs.head_of.Tie as tie
+use Rattle.record.specs.Marks.{headOf}
+use Rattle.record.proofs.head_of.Statement.{statement}
+use Rattle.record.proofs.head_of.Tie as tie
 
 cast-x : tie.Need-cast-x
 cast-x c = search needs

@@ -1,11 +1,11 @@
--- `records::mark_at` meets its contract. Assumes nothing.
+-- `following::mark_at` meets its contract. Assumes nothing.
 use mathlib.Core.Path.{_≡_, _∙_, ap}
 use mathlib.Core.List.{_∷_}
 use lib.ListN.{length}
 use Rattle.templates.proofs.Fronts.{eight-all}
 use borrow.Author.Needs.{needs}
-use Rattle.records.proofs.mark_at.Statement.{statement}
-use Rattle.records.proofs.mark_at.Tie as tie
+use Rattle.following.proofs.mark_at.Statement.{statement}
+use Rattle.following.proofs.mark_at.Tie as tie
 
 letters-requires : tie.Need-letters-requires
 letters-requires c κs = search needs
