@@ -10,7 +10,7 @@ long read(int fd, void *buf, size_t len);
 long write(int fd, const void *buf, size_t len);
 _Noreturn void _exit(int status);
 
-enum { GUARD = 64, MOST_TABLE = 60000, MOST_RECORDS = 35 * 200000, MOST_FILE = 70000 };
+enum { GUARD = 64, MOST_TABLE = 60000, MOST_RECORDS = OPALCRUMB_RECORD * 200000, MOST_FILE = 70000 };
 
 static uint8_t file[MOST_FILE + 2 * GUARD], copy[MOST_FILE + 2 * GUARD];
 static uint16_t table[MOST_TABLE + 2 * GUARD], records[MOST_RECORDS + 2 * GUARD];

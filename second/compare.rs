@@ -6,15 +6,17 @@ use crate::cells::least_form;
 use crate::families::{cube, pyramid, with_faults, Family, FAMILIES};
 use crate::make::Dice;
 use crate::mesh::{in_bounds, read, spans};
-use crate::portion::{list, mark_of, text, words, Answer, Listed, RECORD, START};
+use crate::portion::{list, mark_of, order, text, words, writes, Answer, Listed, MARK, RECORD, ROOM_SHORT, START, TABLE_SHORT};
 use crate::slips::{is, Slip};
 use std::io::{BufReader, BufWriter, Read, Write};
 use std::path::PathBuf;
 use std::process::{Child, ChildStdin, ChildStdout, Command, Output, Stdio};
+use std::collections::VecDeque;
 use std::sync::atomic::{AtomicU64, Ordering};
+use std::sync::Mutex;
 
 const GUARD: usize = 64;
-const MOST_RECORDS: usize = 35 * 200_000;
+const MOST_RECORDS: usize = RECORD * 200_000;
 
 pub struct Plan {
     // the words that start the program, if it is to be asked, and those that start second/ask.c
@@ -24,6 +26,8 @@ pub struct Plan {
     pub seed: u64,
     pub scale: usize,
     pub only: Option<String>,
+    // how many families are asked at a time
+    pub workers: usize,
 }
 
 // What both sides were asked last, for the report of a difference.
@@ -34,9 +38,10 @@ struct Asked {
     file: Vec<u8>,
 }
 
-pub struct Comparison {
-    plan: Plan,
-    _ask: Child,
+// One worker's part: its own process of the library, and what it has asked.
+struct Comparison<'a> {
+    plan: &'a Plan,
+    library: Child,
     to: BufWriter<ChildStdin>,
     from: BufReader<ChildStdout>,
     now: Asked,
@@ -45,9 +50,11 @@ pub struct Comparison {
     dice: Dice,
 }
 
+// The questions that were put so far, by all workers; and who may report a difference.
 static ALIVE: AtomicU64 = AtomicU64::new(0);
+static REPORT: Mutex<()> = Mutex::new(());
 
-// Ends the run if no question is answered for five minutes, so that nothing hangs unseen.
+// Ends the run if no question is put for five minutes, so that nothing hangs unseen.
 fn watch() {
     std::thread::spawn(|| {
         let mut last = (0, 0);
@@ -73,8 +80,8 @@ fn first_apart(name: &str, got: &[u16], want: &[u16]) -> Option<String> {
     Some(format!("{} entry {}: the library has {}, the second program {}", name, place, got[at], want[at]))
 }
 
-impl Comparison {
-    pub fn new(plan: Plan) -> Comparison {
+impl Comparison<'_> {
+    fn new(plan: &Plan) -> Comparison<'_> {
         let first = plan.ask.first().unwrap_or_else(|| stop("--ask is missing"));
         let mut ask = Command::new(first)
             .args(&plan.ask[1..])
@@ -86,11 +93,12 @@ impl Comparison {
         let to = BufWriter::new(ask.stdin.take().unwrap());
         let from = BufReader::with_capacity(1 << 16, ask.stdout.take().unwrap());
         let dice = Dice::new(plan.seed);
-        watch();
-        Comparison { plan, _ask: ask, to, from, now: Asked::default(), meshes: 0, questions: 0, dice }
+        Comparison { plan, library: ask, to, from, now: Asked::default(), meshes: 0, questions: 0, dice }
     }
 
+    // Reports a difference and ends everything; the first worker to find one reports it.
     fn differ(&self, what: &str) -> ! {
+        let _first = REPORT.lock();
         let _ = std::fs::create_dir_all(&self.plan.save);
         let mesh = self.plan.save.join("difference.mesh");
         let note = self.plan.save.join("difference.txt");
@@ -103,7 +111,7 @@ impl Comparison {
 
     fn asked(&mut self, question: String) {
         self.questions += 1;
-        ALIVE.store(self.questions, Ordering::Relaxed);
+        ALIVE.fetch_add(1, Ordering::Relaxed);
         self.now.question = question;
     }
 
@@ -159,7 +167,7 @@ impl Comparison {
         }
     }
 
-    fn portion(&mut self, want: &Answer, mark: &[u16; 9], table_room: usize, record_room: usize) {
+    fn portion(&mut self, want: &Answer, mark: &[u16; MARK], table_room: usize, record_room: usize) {
         self.asked(format!("portion after {}, table of {}, room of {}", words(mark), table_room, record_room));
         let seed = self.dice.next() as u32;
         let around = [seed ^ 0x5555, seed ^ 0x1234_5678, seed ^ 0xaaaa];
@@ -169,7 +177,7 @@ impl Comparison {
         self.send(&around);
         self.send(&[seed, table_room as u32, record_room as u32]);
         let (refused, kept) = (self.get_u32(), self.get_u32());
-        let mark_now = self.get_words(9);
+        let mark_now = self.get_words(MARK);
         let counts: Vec<u32> = (0..6).map(|_| self.get_u32()).collect();
         let table = self.get_words(table_room + 2 * GUARD);
         let records = self.get_words(record_room + 2 * GUARD);
@@ -184,7 +192,7 @@ impl Comparison {
             self.differ(&format!("mark: the library has {}, the second program {}", words(&mark_now), words(&want.mark)));
         }
         let (mut count, mut end) = (around, around);
-        if refused == 0 || refused == 12 {
+        if writes(refused) {
             count[1] = want.count;
         }
         if refused == 0 {
@@ -208,14 +216,14 @@ impl Comparison {
     }
 
     // The answer that the second program gives, refusals of the file included.
-    fn expect(&self, listed: &Result<Listed, u32>, mark: &[u16; 9], table_room: usize, record_room: usize) -> Answer {
+    fn expect(&self, listed: &Result<Listed, u32>, mark: &[u16; MARK], table_room: usize, record_room: usize) -> Answer {
         match listed {
             Err(number) => Answer::refusal(*number, mark),
             Ok(listed) => listed.portion(mark, table_room, record_room),
         }
     }
 
-    fn ask_portion(&mut self, listed: &Result<Listed, u32>, mark: [u16; 9], table_room: usize, record_room: usize) -> Answer {
+    fn ask_portion(&mut self, listed: &Result<Listed, u32>, mark: [u16; MARK], table_room: usize, record_room: usize) -> Answer {
         let want = self.expect(listed, &mark, table_room, record_room);
         self.portion(&want, &mark, table_room, record_room);
         want
@@ -223,12 +231,12 @@ impl Comparison {
 
     // A mark to ask about: the start, one handed out, one off by one, one with its unused places
     // filled, a cell's turned round, or anything.
-    fn some_mark(&mut self, listed: &Result<Listed, u32>) -> [u16; 9] {
+    fn some_mark(&mut self, listed: &Result<Listed, u32>) -> [u16; MARK] {
         let dice = &mut self.dice;
         let cells = listed.as_ref().map_or(&[][..], |l| &l.cells[..]);
         let n = listed.as_ref().map_or(9, |l| l.mesh.points.len()) as u16;
         let mut mark = if cells.is_empty() || dice.one_in(5) {
-            let mut any = [0; 9].map(|_| if dice.one_in(8) { dice.next() as u16 } else { dice.next() as u16 % (n + 2) });
+            let mut any = [0; MARK].map(|_| if dice.one_in(8) { dice.next() as u16 } else { dice.next() as u16 % (n + 2) });
             any[0] = [8, 6, 5, 8, 6, 5, 0, 1, 2, 3, 4, 7, 9, 65_535, dice.next() as u16][dice.below(15)];
             any
         } else {
@@ -261,17 +269,17 @@ impl Comparison {
         let need = listed.as_ref().map_or(20, |l| l.table.len());
         let table = [need, need, need + 1, need + 500, 25_089.max(need), need - 1, 0, dice.below(need + 1)][dice.below(8)];
         let whole = RECORD * left.min(300);
-        let choices = [0, 34, 35, 36, 69, 70, 71, whole, whole + 1, whole + 35, whole.saturating_sub(1)];
-        let records = if dice.one_in(4) { dice.below(whole + 40) } else { choices[dice.below(choices.len())] };
+        let choices = [0, RECORD - 1, RECORD, RECORD + 1, 2 * RECORD - 1, 2 * RECORD, 2 * RECORD + 1, whole, whole + 1, whole + RECORD, whole.saturating_sub(1)];
+        let records = if dice.one_in(4) { dice.below(whole + RECORD + 5) } else { choices[dice.below(choices.len())] };
         if dice.one_in(3) {
             (table, records)
         } else {
-            (need + dice.below(3), records.max(35))
+            (need + dice.below(3), records.max(RECORD))
         }
     }
 
     // What the program prints, for the whole list or, with ten words, for a part of it.
-    fn program(&mut self, listed: &Result<Listed, u32>, mark: Option<([u16; 9], usize)>) {
+    fn program(&mut self, listed: &Result<Listed, u32>, mark: Option<([u16; MARK], usize)>) {
         if self.plan.program.is_empty() {
             return;
         }
@@ -302,7 +310,7 @@ impl Comparison {
     }
 
     // Everything that is asked about one mesh.
-    fn mesh(&mut self, file: &[u8], questions: usize) {
+    fn mesh(&mut self, file: &Vec<u8>, questions: usize) {
         self.meshes += 1;
         self.set_file(file);
         let listed = read(file).map(list);
@@ -329,7 +337,7 @@ impl Comparison {
     }
 
     // The whole list in rooms of k records, from mark to mark.
-    fn end_to_end(&mut self, file: &[u8], k: usize) {
+    fn end_to_end(&mut self, file: &Vec<u8>, k: usize) {
         self.meshes += 1;
         self.set_file(file);
         let listed = read(file).map(list);
@@ -349,20 +357,16 @@ impl Comparison {
         }
     }
 
-    fn family(&mut self, family: &Family) {
+    fn family(&mut self, family: &Family) -> usize {
         for i in 0..family.count * self.plan.scale {
             let file = mesh_of(family, i, self.plan.seed);
             self.now.family = format!("{} number {}", family.name, i);
             self.mesh(&file, 8);
         }
-        self.done(family.name, family.count * self.plan.scale);
+        family.count * self.plan.scale
     }
 
-    fn done(&self, name: &str, count: usize) {
-        println!("family {}: {} ok", name, count);
-    }
-
-    fn damaged(&mut self) {
+    fn damaged(&mut self) -> usize {
         let mut count = 0;
         for good in [pyramid().bytes(), cube().bytes()] {
             for at in 0..good.len() {
@@ -379,16 +383,16 @@ impl Comparison {
                         self.check(mesh.as_ref().err().copied().unwrap_or(0));
                         if mesh.is_ok() && count % 3 == 0 {
                             let listed = mesh.map(list);
-                            self.ask_portion(&listed, START, 100, 35 * 30);
+                            self.ask_portion(&listed, START, 100, RECORD * 30);
                         }
                     }
                 }
             }
         }
-        self.done("damaged", count);
+        count
     }
 
-    fn truncated(&mut self) {
+    fn truncated(&mut self) -> usize {
         let mut count = 0;
         for good in [pyramid().bytes(), cube().bytes()] {
             for len in 0..good.len() + 12 {
@@ -416,31 +420,33 @@ impl Comparison {
                 self.mesh(&file, 1);
             }
         }
-        self.done("truncated", count);
+        count
     }
 
     // Each refusal alone, each pair of them, and each with too little table or room.
-    fn refusals(&mut self) {
+    fn refusals(&mut self) -> usize {
         let mut count = 0;
-        for first in 1..=11u32 {
-            for second in first..=11 {
-                let file = with_faults(if first == second { vec![first] } else { vec![first, second] });
+        let order = order();
+        for (i, first) in order.iter().enumerate() {
+            for second in &order[i..] {
+                let both = [*first, *second];
+                let file = with_faults(if first == second { &both[..1] } else { &both });
                 self.now.family = format!("refusals {} and {}", first, second);
                 self.mesh(&file, 2);
                 let listed = read(&file).map(list);
-                let table = if first == 10 || second == 10 { 3 } else { 1_000 };
-                let room = if first == 11 || second == 11 { 34 } else { 35 * 40 };
+                let table = if both.contains(&TABLE_SHORT) { 3 } else { 1_000 };
+                let room = if both.contains(&ROOM_SHORT) { RECORD - 1 } else { RECORD * 40 };
                 let answer = self.ask_portion(&listed, START, table, room);
-                if answer.refused != first {
+                if answer.refused != *first {
                     self.differ(&format!("the file is made to be refused with {}, and is with {}", first, answer.refused));
                 }
                 count += 1;
             }
         }
-        self.done("refusals", count);
+        count
     }
 
-    fn chains(&mut self) {
+    fn chains(&mut self) -> usize {
         let mut count = 0;
         for (name, k) in [("worked", 1), ("worked", 24), ("worked", 25), ("five", 3), ("kuhn-shuffled", 1), ("parts", 2), ("boundary", 1), ("crowded-cube", 1)] {
             let family = FAMILIES.iter().find(|f| f.name == name).unwrap();
@@ -451,28 +457,28 @@ impl Comparison {
                 count += 1;
             }
         }
-        self.done("chains", count);
+        count
     }
 
     // Kinds 0 to 9 and the last, from a good file.
-    fn kinds(&mut self) {
+    fn kinds(&mut self) -> usize {
         self.set_file(&cube().bytes());
         let listed = read(&self.now.file).map(list);
         let mut count = 0;
         for kind in (0..10).chain([255, 256, 32_768, 65_534, 65_535]) {
             for fill in [0, 1, 3, 7, 8, 65_535] {
                 self.now.family = "kinds".to_string();
-                let mut mark = [fill; 9];
+                let mut mark = [fill; MARK];
                 mark[0] = kind;
-                self.ask_portion(&listed, mark, 100, 35 * 30);
+                self.ask_portion(&listed, mark, 100, RECORD * 30);
                 self.program(&listed, Some((mark, 1 + count % 30)));
                 count += 1;
             }
         }
-        self.done("kinds", count);
+        count
     }
 
-    fn boxes(&mut self) {
+    fn boxes(&mut self) -> usize {
         self.now = Asked { family: "boxes".to_string(), ..Asked::default() };
         let mut count = 0;
         let sides = [-50_000, 50_000];
@@ -502,7 +508,7 @@ impl Comparison {
             self.one_box(points);
             count += 1;
         }
-        self.done("boxes", count);
+        count
     }
 
     fn one_box(&mut self, points: [[i32; 3]; 4]) {
@@ -529,7 +535,7 @@ impl Comparison {
     }
 
     // Every order of eight, of six and of five corners, then other numbers, kinds and equal corners.
-    fn least_forms(&mut self) {
+    fn least_forms(&mut self) -> usize {
         self.now = Asked { family: "least-forms".to_string(), ..Asked::default() };
         let mut count = 0;
         for kind in [8usize, 6, 5] {
@@ -551,7 +557,7 @@ impl Comparison {
             self.one_least(kind, corners);
             count += 1;
         }
-        self.done("least-forms", count);
+        count
     }
 
     fn one_least(&mut self, kind: u16, corners: [u16; 8]) {
@@ -583,31 +589,112 @@ impl Comparison {
         }
     }
 
-    pub fn run(&mut self) {
-        type Other = fn(&mut Comparison);
-        let others: [(&str, Other); 7] = [
-            ("boxes", Comparison::boxes),
-            ("least-forms", Comparison::least_forms),
-            ("kinds", Comparison::kinds),
-            ("refusals", Comparison::refusals),
-            ("chains", Comparison::chains),
-            ("truncated", Comparison::truncated),
-            ("damaged", Comparison::damaged),
-        ];
-        let only = self.plan.only.clone();
-        let wanted = |name: &str| only.as_ref().map_or(true, |o| o == name);
-        for (name, ask) in others {
-            if wanted(name) {
-                ask(self);
-            }
+    // Ends the library's process, which has nothing more to say.
+    fn end(mut self) {
+        drop(self.to);
+        let ended = self.library.wait();
+        if !ended.map_or(false, |status| status.success()) || self.from.read(&mut [0]).map_or(true, |n| n > 0) {
+            println!("DIFFERENCE: the library's program did not end as it should");
+            std::process::exit(1);
         }
-        for family in FAMILIES {
-            if wanted(family.name) {
-                self.family(family);
-            }
-        }
-        println!("compared: {} meshes, {} questions, no difference", self.meshes, self.questions);
     }
+
+    // Asks all questions of one family, with dice of its own, and tells how many it counts.
+    fn ask(&mut self, part: &Part) -> usize {
+        self.dice = Dice::new(self.plan.seed ^ hash(part.name()));
+        match part {
+            Part::Other(_, ask) => ask(self),
+            Part::Meshes(family) => self.family(family),
+        }
+    }
+}
+
+// What is compared as one family: questions of another form, or a family of meshes.
+enum Part {
+    Other(&'static str, fn(&mut Comparison) -> usize),
+    Meshes(&'static Family),
+}
+
+impl Part {
+    fn name(&self) -> &'static str {
+        match self {
+            Part::Other(name, _) => name,
+            Part::Meshes(family) => family.name,
+        }
+    }
+}
+
+const LONGEST_PART: &str = "damaged";
+
+// All parts in the order in which they are told: those first that meet most errors in least time.
+fn parts() -> Vec<Part> {
+    let mut parts = vec![
+        Part::Other("boxes", |c| c.boxes()),
+        Part::Other("least-forms", |c| c.least_forms()),
+        Part::Other("kinds", |c| c.kinds()),
+        Part::Other("refusals", |c| c.refusals()),
+        Part::Other("truncated", |c| c.truncated()),
+        Part::Other(LONGEST_PART, |c| c.damaged()),
+    ];
+    parts.extend(FAMILIES.iter().map(Part::Meshes));
+    parts.push(Part::Other("chains", |c| c.chains()));
+    parts
+}
+
+// What is still to be asked, and what came back: for each part its line, told once all before it are.
+struct Progress {
+    left: VecDeque<usize>,
+    lines: Vec<Option<String>>,
+    told: usize,
+    meshes: u64,
+    questions: u64,
+}
+
+impl Progress {
+    fn tell(&mut self, part: usize, line: String) {
+        self.lines[part] = Some(line);
+        while let Some(Some(line)) = self.lines.get(self.told) {
+            println!("{}", line);
+            self.told += 1;
+        }
+    }
+}
+
+fn take(progress: &Mutex<Progress>) -> Option<usize> {
+    progress.lock().unwrap().left.pop_front()
+}
+
+// Takes parts until none is left.
+fn work(plan: &Plan, parts: &[Part], progress: &Mutex<Progress>) {
+    let mut comparison = Comparison::new(plan);
+    while let Some(i) = take(progress) {
+        let count = comparison.ask(&parts[i]);
+        progress.lock().unwrap().tell(i, format!("family {}: {} ok", parts[i].name(), count));
+    }
+    let mut sums = progress.lock().unwrap();
+    sums.meshes += comparison.meshes;
+    sums.questions += comparison.questions;
+    comparison.end();
+}
+
+// The comparison, several families at a time, the longest begun first. The lines come in one order, whoever is done first.
+pub fn compare(plan: &Plan) {
+    let mut parts = parts();
+    parts.retain(|p| plan.only.as_ref().map_or(true, |only| only == p.name()));
+    let mut left: VecDeque<usize> = (0..parts.len()).collect();
+    if plan.workers > 1 {
+        left.make_contiguous().sort_by_key(|i| parts[*i].name() != LONGEST_PART);
+    }
+    let lines = vec![None; parts.len()];
+    let progress = Mutex::new(Progress { left, lines, told: 0, meshes: 0, questions: 0 });
+    watch();
+    std::thread::scope(|scope| {
+        for _ in 0..plan.workers {
+            scope.spawn(|| work(plan, &parts, &progress));
+        }
+    });
+    let sums = progress.into_inner().unwrap();
+    println!("compared: {} meshes, {} questions, no difference", sums.meshes, sums.questions);
 }
 
 // Runs a program on a file. One that has read enough may leave the rest.

@@ -281,9 +281,9 @@ pub const FAMILIES: &[Family] = &[
     Family { name: "noise", count: 100, make: noise },
 ];
 
-// One file for each of the refusals 1 to 9, alone or with another: the faults do not hide each other,
-// so the smaller number is the answer.
-pub fn with_faults(faults: Vec<u32>) -> Vec<u8> {
+// One file for each refusal of a file, alone or with another: the faults do not hide each other, so the one that is told
+// first is the answer.
+pub fn with_faults(faults: &[u32]) -> Vec<u8> {
     let mut d = cube();
     // tetrahedra apart from the cube, so that a fault has one of its own
     let base = d.points.len() as u16;
@@ -291,7 +291,7 @@ pub fn with_faults(faults: Vec<u32>) -> Vec<u8> {
         d.points.push(p);
     }
     let at = |i: u16| base + i;
-    for fault in &faults {
+    for fault in faults {
         let mut own = |t: [u16; 4]| {
             d.tets.push(t);
             d.parts.push(7);
@@ -316,7 +316,7 @@ pub fn with_faults(faults: Vec<u32>) -> Vec<u8> {
     // a cube whose vertex 3 is out of bounds keeps positive boxes, so that 4 stands alone
     let mut file = d.bytes();
     let mut word = |i: usize, to: u32| file[4 * i..4 * i + 4].copy_from_slice(&to.to_le_bytes());
-    for fault in &faults {
+    for fault in faults {
         match fault {
             1 => word(4, 23),
             2 => word(0, 513),

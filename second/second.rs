@@ -5,9 +5,9 @@
 //                                 at most K cells after the mark, then the end or the mark reached
 //   second make FAMILY NUMBER [SEED]
 //                                 writes one mesh of a family to standard output
-//   second compare --ask ASK [--program PROGRAM] [--seed N] [--scale K] [--only FAMILY] [--save DIR]
-//                                 asks the library (through ASK) and the program the same questions;
-//                                 ASK and PROGRAM of several words are given word by word
+//   second compare --ask ASK [--program PROGRAM] [--seed N] [--scale K] [--only FAMILY] [--save DIR] [--workers K]
+//                                 asks the library (through ASK) and the program the same questions, K families at
+//                                 a time; ASK and PROGRAM of several words are given word by word
 //   second agree SEED PROGRAM...  holds another lister's output to its own, on every accepted mesh
 //   second timed DIR              writes the meshes that bench/run times
 //   second survey [SEED]          what is in each family: meshes accepted, cells of each kind, time
@@ -23,7 +23,7 @@ mod mesh;
 mod portion;
 mod slips;
 
-use compare::{stop, Comparison, Plan};
+use compare::{stop, Plan};
 use std::io::{Read, Write};
 
 fn number<T: std::str::FromStr>(word: &str) -> T {
@@ -36,7 +36,7 @@ fn print(bytes: &[u8]) {
     }
 }
 
-fn answer(mark: [u16; 9], most: usize) {
+fn answer(mark: [u16; portion::MARK], most: usize) {
     let mut file = Vec::new();
     if std::io::stdin().read_to_end(&mut file).is_err() {
         stop("the input could not be read");
@@ -85,7 +85,7 @@ fn survey(seed: u64) {
 
 fn compare(args: &[String]) {
     let mut plan =
-        Plan { program: vec![], ask: vec![], save: "target/second".into(), seed: 1, scale: 1, only: None };
+        Plan { program: vec![], ask: vec![], save: "target/second".into(), seed: 1, scale: 1, only: None, workers: 1 };
     for pair in args.chunks(2) {
         let value = pair.get(1).unwrap_or_else(|| stop("a word is missing")).clone();
         match pair[0].as_str() {
@@ -95,10 +95,11 @@ fn compare(args: &[String]) {
             "--scale" => plan.scale = number(&value),
             "--only" => plan.only = Some(value),
             "--save" => plan.save = value.into(),
+            "--workers" => plan.workers = number::<usize>(&value).max(1),
             other => stop(&format!("what is {}?", other)),
         }
     }
-    Comparison::new(plan).run();
+    compare::compare(&plan);
 }
 
 fn main() {
@@ -107,7 +108,7 @@ fn main() {
     match args.first().map_or("", |s| s.as_str()) {
         "list" if args.len() == 1 => answer(portion::START, usize::MAX),
         "portion" if args.len() == 11 => {
-            let mut mark = [0; 9];
+            let mut mark = [0; portion::MARK];
             for (place, word) in mark.iter_mut().zip(&args[1..10]) {
                 *place = number(word);
             }
