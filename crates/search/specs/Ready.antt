@@ -9,11 +9,14 @@ use lib.IntN.{ℤ}
 use lib.ListN.{length}
 use Rattle.space.specs.Arrays.{meshOf, Close}
 use Rattle.around.specs.Index.{Indexed}
-use Rattle.templates.specs.Tables.{templateOf}
+use Rattle.space.specs.Mesh.{Mesh}
+use Rattle.templates.specs.Tables.{Template, templateOf}
 use Rattle.marks.specs.Marks.{Marked}
 use Rattle.neighbours.specs.Reading.{Tabled}
 use Rattle.portions.specs.Tuples.{Agree}
-use Rattle.rule.specs.Rule.{isLeaf}
+use Rattle.rule.specs.Rule.{isLeaf, cellAt}
+use Rattle.filling.specs.Found.{Found as Numbered}
+use Rattle.search.specs.declared.Found.{Found}
 use Rattle.ahead.specs.Ahead.{Lent}
 
 -- the mesh of n vertices in working arrays, its index, the marks of its facets and its neighbour table
@@ -35,3 +38,9 @@ pub record Sought (zs : List ℤ) (ls : List ℕ) (n : ℕ) (ms table : List ℕ
 pub record Begins (zs : List ℤ) (ls : List ℕ) (k : ℕ) (mark : List ℕ) (r : ℕ) : Type 0 where
   pub within : r < templateOf k .corners
   pub last : (ps : List ℕ) → (r + 1 ≡ templateOf k .corners) ⊎ ((s : List ℕ) → isLeaf (meshOf zs ls ps) (templateOf k) s ≡ true → Agree (r + 1) mark s → ⊥)
+
+-- what is said of the tuple s: whether it is listed, and then its tetrahedra
+pub record Tested (m : Mesh) (t : Template) (s : List ℕ) (r : Found) : Type 0 where
+  pub is : r .found ≡ isLeaf m t s
+  pub same : r .tuple ≡ s
+  pub tets : r .found ≡ true → Numbered (cellAt m t s .tets) (r .tets)

@@ -18,17 +18,18 @@ use templates::corners_of;
 use verdict::is_leaf;
 use verdict::no_tets;
 ghost use mathlib.Core.Path.{_≡_};
-ghost use mathlib.Core.Bool.{true};
+ghost use mathlib.Core.Bool.{true, false};
 ghost use mathlib.Core.List.{List};
 ghost use Prim.Native.Nat.{ℕ, _/_, _<_, _≤_};
 ghost use lib.ListN.{length};
 ghost use Rattle.space.specs.Arrays.{meshOf};
 ghost use Rattle.templates.specs.Tables.{templateOf};
 ghost use Rattle.filling.specs.Found.{Found as Numbered};
+ghost use Rattle.around.specs.Arrays.{Arrays};
 ghost use Rattle.portions.specs.Tuples.{Skips, LeastAfter};
 ghost use Rattle.rule.specs.Rule.{isLeaf, cellAt};
 ghost use Rattle.levels.specs.Levels.{base, levels};
-ghost use Rattle.search.specs.Ready.{Ready, Sought, Begins};
+ghost use Rattle.search.specs.Ready.{Ready, Sought, Begins, Tested};
 
 // The tuple that was found, in search order, and the tetrahedra of its cell.
 pub struct Found {
@@ -124,6 +125,40 @@ fn start(
     d
 }
 
+// Whether the tuple is what is looked for.
+fn tested(
+    coords: &[i64],
+    labels: &[u16],
+    parts: &[u16],
+    n: usize,
+    offsets: &[u16],
+    entries: &[u16],
+    kind: u16,
+    t: [u16; 8],
+) -> Found
+    requires { ⌜ Arrays (now coords) (now labels) (now parts) n (now offsets) (now entries) ⌝ }
+    ensures { λ r. ⌜ Tested (meshOf (now (coords .entry)) (now (labels .entry)) (now (parts .entry))) (templateOf kind) t r ⌝ }
+{
+    let v = is_leaf(coords, labels, parts, n, offsets, entries, kind, t);
+    let tets = v.tets;
+    Found {
+        found: v.yes,
+        tuple: t,
+        tets,
+    }
+}
+
+// No tuple is left; t is the last one tried.
+fn none(t: [u16; 8]) -> Found
+    ensures { λ r. ⌜ (r .found ≡ false) × (r .tuple ≡ t) ⌝ }
+{
+    Found {
+        found: false,
+        tuple: t,
+        tets: no_tets(),
+    }
+}
+
 // The least tuple of a kind after the mark that is a cell in least form. Entries past the kind's corners keep what the mark has there.
 pub fn next(
     tables: &[u8],
@@ -156,23 +191,14 @@ pub fn next(
                 d += 1;
                 lo = 0;
             } else {
-                let v = is_leaf(coords, labels, parts, n, offsets, entries, kind, t);
-                if v.yes {
-                    let tets = v.tets;
-                    return Found {
-                        found: true,
-                        tuple: t,
-                        tets,
-                    };
+                let r = tested(coords, labels, parts, n, offsets, entries, kind, t);
+                if r.found {
+                    return r;
                 }
                 lo = c + 1;
             }
         } else if d == 0 {
-            return Found {
-                found: false,
-                tuple: t,
-                tets: no_tets(),
-            };
+            return none(t);
         } else {
             d -= 1;
             lo = wide(t[d]) + 1;

@@ -76,19 +76,19 @@ loop-again c =
     let w = laws-of (sought-of (z .pre .1 .0)) (z .args .kind) (z .args .mark) (z .args .parts .now) in
     descend w (c .before .before .before .loop .inv) (c .before .before .seek .ensures (z .args .parts .now)) (omega arith) (omega (arith, c .before .before .before .before .before .before .corners-of .ensures .0))
 
-is-leaf-requires : tie.Need-is-leaf-requires Inv-loop μ-loop
-is-leaf-requires c κs =
+tested-requires : tie.Need-tested-requires Inv-loop μ-loop
+tested-requires c κs =
     let z = c .before .before .before .before .before .before .before .before .before .before .before .before .before .before in
     let h = z .pre .1 .0 in
     record { close = h .close; counted = h .counted; few = h .few; indexed = h .indexed; parted = z .pre .1 .1 }
 
 returns : tie.Need-returns Inv-loop μ-loop
 returns c =
-    let z = c .before .before .before .before .before .before .before .before .before .before .before .before .before .before .before .before .before in
+    let z = c .before .before .before .before .before .before .before .before .before .before .before .before .before .before .before .before in
     let w = laws-of (sought-of (z .pre .1 .0)) (z .args .kind) (z .args .mark) (z .args .parts .now) in
-    let l = c .before .before .is-leaf .ensures in (
-      result w (c .before .before .before .before .before .before .loop .inv) (c .before .before .before .before .before .seek .ensures (z .args .parts .now)) (omega arith) (omega (arith, c .before .before .before .before .before .before .before .before .before .corners-of .ensures .0)) (sym (l .0) ∙ c .before .if3 .taken),
-      λ y. l .1 (c .before .if3 .taken),
+    let l = c .before .tested .ensures in (
+      rw (c .if3 .taken, l .same) (result w (c .before .before .before .before .before .loop .inv) (c .before .before .before .before .seek .ensures (z .args .parts .now)) (omega arith) (omega (arith, c .before .before .before .before .before .before .before .before .corners-of .ensures .0)) (sym (l .is) ∙ c .if3 .taken)),
+      λ y. rw (l .same) (l .tets y),
     )
 
 add-lo-2 : tie.Need-add-lo-2 Inv-loop μ-loop
@@ -105,16 +105,16 @@ loop-again-2 : tie.Need-loop-again-2 Inv-loop μ-loop
 loop-again-2 c =
     let z = c .before .before .before .before .before .before .before .before .before .before .before .before .before .before .before .before in
     let w = laws-of (sought-of (z .pre .1 .0)) (z .args .kind) (z .args .mark) (z .args .parts .now) in
-    reject w (c .before .before .before .before .before .loop .inv) (c .before .before .before .before .seek .ensures (z .args .parts .now)) (omega arith) (omega (arith, c .before .before .before .before .before .before .before .before .corners-of .ensures .0)) (sym (c .before .is-leaf .ensures .0) ∙ c .if3 .left)
+    reject w (c .before .before .before .before .before .loop .inv) (c .before .before .before .before .seek .ensures (z .args .parts .now)) (omega arith) (omega (arith, c .before .before .before .before .before .before .before .before .corners-of .ensures .0)) (sym (c .before .tested .ensures .is) ∙ c .if3 .left)
 
-no-tets-requires : tie.Need-no-tets-requires Inv-loop μ-loop
-no-tets-requires c κs = search needs
+none-requires : tie.Need-none-requires Inv-loop μ-loop
+none-requires c κs = search needs
 
 returns-2 : tie.Need-returns-2 Inv-loop μ-loop
 returns-2 c =
     let z = c .before .before .before .before .before .before .before .before .before .before .before .before .before .before .before in
     let w = laws-of (sought-of (z .pre .1 .0)) (z .args .kind) (z .args .mark) (z .args .parts .now) in
-    (nothing w (c .before .before .before .before .loop .inv) (c .before .before .before .seek .ensures (z .args .parts .now)) (omega arith) (omega arith), λ y. absurd (true≢false (sym y)))
+    (rw (c .none .ensures .0, c .none .ensures .1) (nothing w (c .before .before .before .before .loop .inv) (c .before .before .before .seek .ensures (z .args .parts .now)) (omega arith) (omega arith)), λ y. absurd (true≢false (sym y ∙ c .none .ensures .0)))
 
 sub-d : tie.Need-sub-d Inv-loop μ-loop
 sub-d c = omega arith
@@ -164,12 +164,12 @@ next-spec =
     add-d
     loop-less
     loop-again
-    is-leaf-requires
+    tested-requires
     returns
     add-lo-2
     loop-less-2
     loop-again-2
-    no-tets-requires
+    none-requires
     returns-2
     sub-d
     mul-wide-2
