@@ -6,3 +6,4 @@ pub mod Signed
 pub mod Ring
 pub mod Runs
 pub mod Members
+pub mod Stores

@@ -1,3 +1,4 @@
 pub mod Lists
 pub mod Laid
 pub mod Size
+pub mod Stores
