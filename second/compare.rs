@@ -677,7 +677,7 @@ fn work(plan: &Plan, parts: &[Part], progress: &Mutex<Progress>) {
     comparison.end();
 }
 
-// The comparison, several families at a time, the longest begun first. The lines come in one order, whoever is done first.
+// The comparison, several families at a time, the longest begun first. The lines come in one order.
 pub fn compare(plan: &Plan) {
     let mut parts = parts();
     parts.retain(|p| plan.only.as_ref().map_or(true, |only| only == p.name()));

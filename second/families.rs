@@ -281,8 +281,8 @@ pub const FAMILIES: &[Family] = &[
     Family { name: "noise", count: 100, make: noise },
 ];
 
-// One file for each refusal of a file, alone or with another: the faults do not hide each other, so the one that is told
-// first is the answer.
+// One file for each refusal of a file, alone or with another: the faults do not hide each other, so the one
+// that is told first is the answer.
 pub fn with_faults(faults: &[u32]) -> Vec<u8> {
     let mut d = cube();
     // tetrahedra apart from the cube, so that a fault has one of its own

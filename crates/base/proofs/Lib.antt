@@ -7,3 +7,4 @@ pub mod Ring
 pub mod Runs
 pub mod Members
 pub mod Refusals
+pub mod Stores

@@ -1,16 +1,17 @@
 -- What stores of marks add up to, and that marks of every tetrahedron are marks of every facet.
 -- Assumes nothing.
-use Prim.Native.Nat.{ℕ, _+_, _/_, _%_, _<_}
+use Prim.Native.Nat.{ℕ, _/_, _%_, _<_}
 use mathlib.Core.Path.{_≡_, refl, sym, _∙_, ap}
 use mathlib.Core.Bool.{Bool, true, false, not, _||_}
 use mathlib.Core.List.{List, [], _∷_}
 use native.Mathlib.Omega.{arith}
-use native.Mathlib.Decide.{decLt}
 use borrow.Author.Tests.{eqb-true, eqb-false}
 use lib.Dec.{eqb}
 use lib.ListN.{length, getD, set, length-set}
 use lib.Seq.{getD-set-same, getD-set-other}
 use Rattle.base.specs.Lists.{upTo, isIn}
+use Rattle.base.specs.Stores.{Below}
+use Rattle.base.proofs.Stores.{earlier, stores-then}
 use Rattle.base.proofs.Bools.{or-false, or-either}
 use Rattle.base.proofs.Lists.{both-left, both-right, any-at}
 use Rattle.base.proofs.Members.{from-at}
@@ -18,15 +19,15 @@ use Rattle.base.proofs.Runs.{any-map}
 use Rattle.space.specs.Mesh.{together, holds}
 use Rattle.space.specs.Arrays.{row4, tetAt}
 use Rattle.space.proofs.Turned.{spread-first, spread-last}
-use Rattle.marks.specs.Marks.{places, key, noted, Marked, Notes, Among, OfPoint, OfSquare, OfTet, Below}
+use Rattle.marks.specs.Marks.{places, key, noted, Marked, Notes, Among, OfPoint, OfSquare, OfTet, OfNumber}
 
 -- a store makes one
 pub note-one : (m : List ℕ) (u v w k : ℕ) → k ≡ key u v w → k < length m → Notes m (set m k 1) (OfPoint u v w)
 unfolding noted
 note-one m u v w k q h = record {
   same = length-set m k 1;
-  kept = λ x y z e. stays (key x y z) e (eqb (key x y z) k) refl;
-  made = λ x y z o. here (key x y z) (rw (only x u (o .first), only y v (o .second), only z w (o .third)) (sym q));
+  kept = λ t e. stays (key (t .0) (t .1 .0) (t .1 .1)) e (eqb (key (t .0) (t .1 .0) (t .1 .1)) k) refl;
+  made = λ t o. here (key (t .0) (t .1 .0) (t .1 .1)) (rw (only (t .0) u (o .first), only (t .1 .0) v (o .second), only (t .1 .1) w (o .third)) (sym q));
 }
   where
     only : (x a : ℕ) → isIn x (a ∷ []) ≡ true → x ≡ a
@@ -55,48 +56,32 @@ noted-last m u v w e = ap (λ n. not (eqb (getD m (n % places) 0) 0)) (spread-la
 among : (x a : ℕ) (vs : List ℕ) {P : Type 0} → isIn x (a ∷ vs) ≡ true → (isIn x (a ∷ []) ≡ true → P) → (isIn x vs ≡ true → P) → P
 among x a vs e f g = or-either (eqb x a) (isIn x vs) e (λ h. f (ap (λ b. b || false) h)) g
 
-of : {us vs ws : List ℕ} {x y z : ℕ} → isIn x us ≡ true → isIn y vs ≡ true → isIn z ws ≡ true → Among us vs ws x y z
+of : {us vs ws : List ℕ} {x y z : ℕ} → isIn x us ≡ true → isIn y vs ≡ true → isIn z ws ≡ true → Among us vs ws (x, (y, z))
 of e f g = record { first = e; second = f; third = g }
 
-module _ {m m′ m″ : List ℕ} where
-  module _ {p q : ℕ → ℕ → ℕ → Type 0} (i : Notes m m′ p) (j : Notes m′ m″ q) where
-    earlier : (x y z : ℕ) → p x y z → noted m″ x y z ≡ true
-    earlier x y z o = j .kept x y z (i .made x y z o)
-
-    notes-then : {r : ℕ → ℕ → ℕ → Type 0} → ((x y z : ℕ) → r x y z → noted m″ x y z ≡ true) → Notes m m″ r
-    notes-then f = record { same = j .same ∙ i .same; kept = λ x y z e. j .kept x y z (i .kept x y z e); made = f }
-
-  -- one more vertex at the third place, at the last two, at all three: what has it in it is turned so that it comes first of these
-  module _ {a : ℕ} {us vs : List ℕ} where
+-- one more vertex at the third place, at the last two, at all three: what has it in it is turned so that it comes first of these
+module _ {m m′ m″ : List ℕ} {a : ℕ} where
+  module _ {us vs : List ℕ} where
     pub line-next : {ws : List ℕ} → Notes m m′ (Among us vs (a ∷ [])) → Notes m′ m″ (Among us vs ws) → Notes m m″ (Among us vs (a ∷ ws))
-    line-next {ws} i j = notes-then i j (λ x y z o. among z a ws (o .third) (λ e. earlier i j x y z (of (o .first) (o .second) e)) (λ e. j .made x y z (of (o .first) (o .second) e)))
+    line-next {ws} i j = stores-then i j (λ t o. among (t .1 .1) a ws (o .third) (λ e. earlier i j t (of (o .first) (o .second) e)) (λ e. j .made t (of (o .first) (o .second) e)))
 
     pub square-next : Notes m m′ (Among us (a ∷ []) (a ∷ vs)) → Notes m′ m″ (Among us vs vs) → Notes m m″ (Among us (a ∷ vs) (a ∷ vs))
     square-next i j =
-        notes-then i j (λ x y z o. among y a vs (o .second) (λ e. earlier i j x y z (of (o .first) e (o .third)))
-        (λ f. among z a vs (o .third) (λ e. noted-last m″ x z y (earlier i j x z y (of (o .first) e (o .second))))
-        (λ g. j .made x y z (of (o .first) f g))))
+        stores-then i j (λ t o. among (t .1 .0) a vs (o .second) (λ e. earlier i j t (of (o .first) e (o .third)))
+        (λ f. among (t .1 .1) a vs (o .third) (λ e. noted-last m″ (t .0) (t .1 .1) (t .1 .0) (earlier i j (t .0, (t .1 .1, t .1 .0)) (of (o .first) e (o .second))))
+        (λ g. j .made t (of (o .first) f g))))
 
-  pub tet-next : {a : ℕ} {vs : List ℕ} → Notes m m′ (OfSquare a (a ∷ vs)) → Notes m′ m″ (OfTet vs) → Notes m m″ (OfTet (a ∷ vs))
-  tet-next {a} {vs} i j =
-      notes-then i j (λ x y z o. among x a vs (o .first) (λ e. earlier i j x y z (of e (o .second) (o .third)))
-      (λ f. among y a vs (o .second) (λ e. noted-first m″ y x z (earlier i j y x z (of e (o .first) (o .third))))
-      (λ g. among z a vs (o .third) (λ e. noted-last m″ x z y (noted-first m″ z x y (earlier i j z x y (of e (o .first) (o .second)))))
-      (λ h. j .made x y z (of f g h)))))
+  pub tet-next : {vs : List ℕ} → Notes m m′ (OfSquare a (a ∷ vs)) → Notes m′ m″ (OfTet vs) → Notes m m″ (OfTet (a ∷ vs))
+  tet-next {vs} i j =
+      stores-then i j (λ t o. let x = t .0 in let y = t .1 .0 in let z = t .1 .1 in
+      among x a vs (o .first) (λ e. earlier i j t (of e (o .second) (o .third)))
+      (λ f. among y a vs (o .second) (λ e. noted-first m″ y x z (earlier i j (y, (x, z)) (of e (o .first) (o .third))))
+      (λ g. among z a vs (o .third) (λ e. noted-last m″ x z y (noted-first m″ z x y (earlier i j (z, (x, y)) (of e (o .first) (o .second)))))
+      (λ h. j .made t (of f g h)))))
 
 -- ── all tetrahedra ──
 
-pub notes-none : (m ls : List ℕ) → Notes m m (Below ls 0)
-notes-none m ls = record { same = refl; kept = λ x y z e. e; made = λ x y z o. absurd (let h : ⊥ = omega (arith, o .before) in h) }
-
-pub notes-next : {m m′ m″ : List ℕ} (ls : List ℕ) (i : ℕ) → Notes m m′ (Below ls i) → Notes m′ m″ (OfTet (row4 ls i)) → Notes m m″ (Below ls (i + 1))
-notes-next ls i a b =
-    notes-then a b {r = Below ls (i + 1)} (λ x y z o. elim (decLt (o .tet) i) [
-      | yes h ↦ earlier a b x y z (record { tet = o .tet; before = h; held = o .held })
-      | no h ↦ let e : o .tet ≡ i = omega (arith, o .before) in b .made x y z (rw (← e) (o .held))
-    ])
-
-pub all-marked : {m m′ ls : List ℕ} → length m ≡ places → Notes m m′ (Below ls (length ls / 4)) → Marked ls m′
+pub all-marked : {m m′ ls : List ℕ} → length m ≡ places → Notes m m′ (Below (OfNumber ls) (length ls / 4)) → Marked ls m′
 unfolding together
 all-marked {m} {m′} {ls} l a = record {
   size = a .same ∙ l;
@@ -105,8 +90,8 @@ all-marked {m} {m′} {ls} l a = record {
       let i = f .0 in
       let g = f .2 in
       let g1 = both-right (isIn u (row4 ls i)) _ g in
-      a .made u v w (record {
-        tet = i;
+      a .made (u, (v, w)) (record {
+        which = i;
         before = omega (arith, from-at 0 (length ls / 4) (f .1) .1);
         held = of (both-left (isIn u (row4 ls i)) _ g) (both-left (isIn v (row4 ls i)) _ g1) (both-left (isIn w (row4 ls i)) _ (both-right (isIn v (row4 ls i)) _ g1));
       });

@@ -1,12 +1,13 @@
 -- Marks of facets: a table in which three vertices have one place. Where the place is empty they are no facet; where it is not they may be.
 -- Assumes nothing.
-use Prim.Native.Nat.{ℕ, _%_, _<_}
+use Prim.Native.Nat.{ℕ, _%_}
 use mathlib.Core.Path.{_≡_}
 use mathlib.Core.Bool.{Bool, true, not, _||_}
 use mathlib.Core.List.{List, [], _∷_}
 use lib.Dec.{eqb}
 use lib.ListN.{length, getD}
 use Rattle.base.specs.Lists.{all, isIn}
+use Rattle.base.specs.Stores.{Stores}
 use Rattle.space.specs.Mesh.{together}
 use Rattle.space.specs.Arrays.{row4, meshOf}
 use Rattle.space.specs.Spread.{spread}
@@ -50,30 +51,30 @@ facesNoted ms c ts qs = allFaces (notedAt ms c) ts qs
 
 -- ── what the stores do ──
 
+-- three vertices have their mark
+abbrev pub HasMark : List ℕ → ℕ × (ℕ × ℕ) → Type 0
+HasMark m t = noted m (t .0) (t .1 .0) (t .1 .1) ≡ true
+
 -- m′ has the marks of m, and one for every three vertices that are asked for
-pub record Notes (m m′ : List ℕ) (asked : ℕ → ℕ → ℕ → Type 0) : Type 0 where
-  pub same : length m′ ≡ length m
-  pub kept : (x y z : ℕ) → noted m x y z ≡ true → noted m′ x y z ≡ true
-  pub made : (x y z : ℕ) → asked x y z → noted m′ x y z ≡ true
+abbrev pub Notes : List ℕ → List ℕ → (ℕ × (ℕ × ℕ) → Type 0) → Type 0
+Notes = Stores HasMark
 
 -- each of three vertices is among those for its place
-pub record Among (us vs ws : List ℕ) (x y z : ℕ) : Type 0 where
-  pub first : isIn x us ≡ true
-  pub second : isIn y vs ≡ true
-  pub third : isIn z ws ≡ true
+pub record Among (us vs ws : List ℕ) (t : ℕ × (ℕ × ℕ)) : Type 0 where
+  pub first : isIn (t .0) us ≡ true
+  pub second : isIn (t .1 .0) vs ≡ true
+  pub third : isIn (t .1 .1) ws ≡ true
 
 -- these three; this one and two of some; three of some
-abbrev pub OfPoint : ℕ → ℕ → ℕ → ℕ → ℕ → ℕ → Type 0
+abbrev pub OfPoint : ℕ → ℕ → ℕ → ℕ × (ℕ × ℕ) → Type 0
 OfPoint u v w = Among (u ∷ []) (v ∷ []) (w ∷ [])
 
-abbrev pub OfSquare : ℕ → List ℕ → ℕ → ℕ → ℕ → Type 0
+abbrev pub OfSquare : ℕ → List ℕ → ℕ × (ℕ × ℕ) → Type 0
 OfSquare u vs = Among (u ∷ []) vs vs
 
-abbrev pub OfTet : List ℕ → ℕ → ℕ → ℕ → Type 0
+abbrev pub OfTet : List ℕ → ℕ × (ℕ × ℕ) → Type 0
 OfTet vs = Among vs vs vs
 
--- all three are vertices of one of the first i tetrahedra
-pub record Below (ls : List ℕ) (i x y z : ℕ) : Type 0 where
-  pub tet : ℕ
-  pub before : tet < i
-  pub held : OfTet (row4 ls tet) x y z
+-- what tetrahedron i asks for
+abbrev pub OfNumber : List ℕ → ℕ → ℕ × (ℕ × ℕ) → Type 0
+OfNumber ls i = OfTet (row4 ls i)

@@ -6,16 +6,17 @@ use mathlib.Core.Logic.{_⊎_, inl, inr, ⊎-elim}
 use mathlib.Core.Bool.{Bool, true, false, not, false≢true}
 use mathlib.Core.List.{List, [], _∷_}
 use native.Mathlib.Omega.{arith}
-use native.Mathlib.Decide.{decLt}
 use borrow.Author.Tests.{eqb-true, eqb-false, eq-eqb, ne-eqb}
 use lib.Dec.{eqb}
 use lib.ListN.{length, getD, set, length-set}
 use lib.Seq.{getD-set-same, getD-set-other}
 use Rattle.base.specs.Lists.{isIn, distinct}
+use Rattle.base.specs.Stores.{Below}
+use Rattle.base.proofs.Stores.{stores-either}
 use Rattle.base.proofs.Bools.{and-left, and-right, or-either}
 use Rattle.space.proofs.Turned.{spread-first, spread-last}
 use Rattle.space.specs.Arrays.{row4}
-use Rattle.pairs.specs.Pairs.{place, Told, Paired, Names, Puts, OfFacet, AtFacet, OfTet, Below}
+use Rattle.pairs.specs.Pairs.{place, Told, Paired, Names, Puts, OfFacet, AtFacet, OfTet, OfNumber}
 
 -- ── one store ──
 
@@ -23,8 +24,8 @@ use Rattle.pairs.specs.Pairs.{place, Told, Paired, Names, Puts, OfFacet,
 pub put-first : {p : List ℕ} (e u v w k : ℕ) → k ≡ place u v w → 2 * k < length p → getD p (2 * k) 0 ≡ 0 → Puts p (set p (2 * k) (e + 1)) (OfFacet e u v w)
 put-first {p} e u v w k q h z = record {
   same = length-set p (2 * k) (e + 1);
-  kept = λ j m t. ⊎-elim (λ a. inl (second j ∙ a)) (λ s. ⊎-elim (λ b. inr (inl (first j m b))) (λ b. inr (inr (second j ∙ b))) s) t;
-  made = λ j m o. inr (inl (rw (o .1, ← q, o .0) (getD-set-same p (2 * k) (e + 1) 0 h)));
+  kept = λ g t. ⊎-elim (λ a. inl (second (g .0) ∙ a)) (λ s. ⊎-elim (λ b. inr (inl (first (g .0) (g .1) b))) (λ b. inr (inr (second (g .0) ∙ b))) s) t;
+  made = λ g o. inr (inl (rw (o .1, ← q, o .0) (getD-set-same p (2 * k) (e + 1) 0 h)));
 }
   where
     second : (j : ℕ) → getD (set p (2 * k) (e + 1)) (2 * j + 1) 0 ≡ getD p (2 * j + 1) 0
@@ -37,8 +38,8 @@ put-first {p} e u v w k q h z = record {
 pub put-second : {p : List ℕ} (e u v w k x : ℕ) → k ≡ place u v w → 2 * k + 1 < length p → ((getD p (2 * k + 1) 0 ≡ 0) × (x ≡ e + 1)) ⊎ (x ≡ 65535) → Puts p (set p (2 * k + 1) x) (OfFacet e u v w)
 put-second {p} e u v w k x q h z = record {
   same = length-set p (2 * k + 1) x;
-  kept = λ j m t. stays j m t (eqb j k) refl;
-  made = λ j m o. rw (o .1, ← q, o .0) (⊎-elim (λ a. inr (inr (now ∙ a .1))) (λ a. inl (now ∙ a)) z);
+  kept = λ g t. stays (g .0) (g .1) t (eqb (g .0) k) refl;
+  made = λ g o. rw (o .1, ← q, o .0) (⊎-elim (λ a. inr (inr (now ∙ a .1))) (λ a. inl (now ∙ a)) z);
 }
   where
     now : getD (set p (2 * k + 1) x) (2 * k + 1) 0 ≡ x
@@ -60,35 +61,16 @@ put-second {p} e u v w k x q h z = record {
     stays j m t true f = let g : j ≡ k = eqb-true j k f in rw g (here m (rw g at t) z)
     stays j m t false f = let n = eqb-false j k f in ⊎-elim (λ a. inl (second j n ∙ a)) (λ s. ⊎-elim (λ b. inr (inl (first j ∙ b))) (λ b. inr (inr (second j n ∙ b))) s) t
 
--- one after the other
-pub puts-then : {p p′ p″ : List ℕ} {q r s : ℕ → ℕ → Type 0} → Puts p p′ q → Puts p′ p″ r → ((k m : ℕ) → s k m → q k m ⊎ r k m) → Puts p p″ s
-puts-then a b f = record {
-  same = b .same ∙ a .same;
-  kept = λ k m t. b .kept k m (a .kept k m t);
-  made = λ k m o. ⊎-elim (λ g. b .kept k m (a .made k m g)) (λ g. b .made k m g) (f k m o);
-}
-
 -- ── the four facets of one tetrahedron ──
 
 pub put-tet : {p p1 p2 p3 p4 : List ℕ} (e a b c d : ℕ) → Puts p p1 (OfFacet e b c d) → Puts p1 p2 (OfFacet e a c d) → Puts p2 p3 (OfFacet e a b d) → Puts p3 p4 (OfFacet e a b c) → Puts p p4 (OfTet e a b c d)
-put-tet e a b c d f g h i = puts-then {q = λ k m. (OfFacet e b c d k m ⊎ OfFacet e a c d k m) ⊎ OfFacet e a b d k m} (puts-then {q = λ k m. OfFacet e b c d k m ⊎ OfFacet e a c d k m} (puts-then f g (λ k m o. o)) h (λ k m o. o)) i each
+put-tet e a b c d f g h i = stores-either {p = λ t. (OfFacet e b c d t ⊎ OfFacet e a c d t) ⊎ OfFacet e a b d t} (stores-either {p = λ t. OfFacet e b c d t ⊎ OfFacet e a c d t} (stores-either f g (λ t o. o)) h (λ t o. o)) i each
   where
-    each : (k m : ℕ) → OfTet e a b c d k m → ((OfFacet e b c d k m ⊎ OfFacet e a c d k m) ⊎ OfFacet e a b d k m) ⊎ OfFacet e a b c k m
-    each k m (s, inl (inl (inl t))) = inl (inl (inl (s, t)))
-    each k m (s, inl (inl (inr t))) = inl (inl (inr (s, t)))
-    each k m (s, inl (inr t)) = inl (inr (s, t))
-    each k m (s, inr t) = inr (s, t)
-
--- ── all tetrahedra ──
-
-pub puts-none : (p ls : List ℕ) → Puts p p (Below ls 0)
-puts-none p ls = record { same = refl; kept = λ k m t. t; made = λ k m o. absurd (let h : ⊥ = omega (arith, o .before) in h) }
-
-pub puts-next : {p p′ p″ : List ℕ} (ls : List ℕ) (i : ℕ) → Puts p p′ (Below ls i) → Puts p′ p″ (OfTet i (getD ls (4 * i) 0) (getD ls (4 * i + 1) 0) (getD ls (4 * i + 2) 0) (getD ls (4 * i + 3) 0)) → Puts p p″ (Below ls (i + 1))
-puts-next ls i a b = puts-then a b split
-  where
-    split : (k m : ℕ) → Below ls (i + 1) k m → Below ls i k m ⊎ OfTet i (getD ls (4 * i) 0) (getD ls (4 * i + 1) 0) (getD ls (4 * i + 2) 0) (getD ls (4 * i + 3) 0) k m
-    split k m o = elim (decLt m i) [ yes h ↦ inl (record { before = h; held = o .held }) | no h ↦ let e : m ≡ i = omega (arith, o .before) in inr (e, rw e at (o .held)) ]
+    each : (t : ℕ × ℕ) → OfTet e a b c d t → ((OfFacet e b c d t ⊎ OfFacet e a c d t) ⊎ OfFacet e a b d t) ⊎ OfFacet e a b c t
+    each t (s, inl (inl (inl u))) = inl (inl (inl (s, u)))
+    each t (s, inl (inl (inr u))) = inl (inl (inr (s, u)))
+    each t (s, inl (inr u)) = inl (inr (s, u))
+    each t (s, inr u) = inr (s, u)
 
 -- ── three different vertices of four ──
 
@@ -151,7 +133,7 @@ module _ (x y z : ℕ) (e : distinct (x ∷ y ∷ z ∷ []) ≡ true) where
   apart-3 : y ≡ z → ⊥
   apart-3 f = false≢true (rw (eq-eqb y z f) at (and-right (not (isIn x (y ∷ z ∷ []))) _ e))
 
-pub all-told : {p p′ ls : List ℕ} → length p ≡ 65536 → Puts p p′ (Below ls (length ls / 4)) → Paired ls p′
+pub all-told : {p p′ ls : List ℕ} → length p ≡ 65536 → Puts p p′ (Below (OfNumber ls) (length ls / 4)) → Paired ls p′
 all-told {p} {p′} {ls} l t = record {
   size = t .same ∙ l;
   told = λ m a b c h d o.
@@ -160,7 +142,7 @@ all-told {p} {p′} {ls} l t = record {
       let i = and-left (isIn a r) _ o in
       let j = and-left (isIn b r) _ o1 in
       let k = and-left (isIn c r) _ (and-right (isIn b r) _ o1) in
-      t .made (place a b c) m (record { before = h; held = at-facet (getD ls (4 * m) 0) (getD ls (4 * m + 1) 0) (getD ls (4 * m + 2) 0) (getD ls (4 * m + 3) 0) a b c (apart-1 a b c d) (apart-2 a b c d) (apart-3 a b c d) i j k });
+      t .made (place a b c, m) (record { which = m; before = h; held = (refl, at-facet (getD ls (4 * m) 0) (getD ls (4 * m + 1) 0) (getD ls (4 * m + 2) 0) (getD ls (4 * m + 3) 0) a b c (apart-1 a b c d) (apart-2 a b c d) (apart-3 a b c d) i j k) });
 }
 
 -- what stands at the place of three different vertices

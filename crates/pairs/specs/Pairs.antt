@@ -8,6 +8,7 @@ use mathlib.Core.Bool.{true, false}
 use mathlib.Core.List.{List, [], _∷_}
 use lib.ListN.{length, getD}
 use Rattle.base.specs.Lists.{distinct}
+use Rattle.base.specs.Stores.{Stores}
 use Rattle.space.specs.Spread.{spread}
 use Rattle.around.specs.Index.{hasAll}
 use Rattle.pairs.specs.declared.Pair.{Pair}
@@ -31,25 +32,22 @@ pub record Names (ls : List ℕ) (a b c : ℕ) (r : Pair) : Type 0 where
 
 -- ── what the stores do ──
 
--- p′ tells what p tells, and whatever is asked for: which tetrahedron, at which place
-pub record Puts (p p′ : List ℕ) (asked : ℕ → ℕ → Type 0) : Type 0 where
-  pub same : length p′ ≡ length p
-  pub kept : (k m : ℕ) → Told p k m → Told p′ k m
-  pub made : (k m : ℕ) → asked k m → Told p′ k m
+-- p′ tells what p tells, and whatever is asked for: at which place, which tetrahedron
+abbrev pub Puts : List ℕ → List ℕ → (ℕ × ℕ → Type 0) → Type 0
+Puts = Stores (λ p t. Told p (t .0) (t .1))
 
 -- tetrahedron e at the place of three vertices
-abbrev pub OfFacet : ℕ → ℕ → ℕ → ℕ → ℕ → ℕ → Type 0
-OfFacet e u v w k m = (m ≡ e) × (k ≡ place u v w)
+abbrev pub OfFacet : ℕ → ℕ → ℕ → ℕ → ℕ × ℕ → Type 0
+OfFacet e u v w t = (t .1 ≡ e) × (t .0 ≡ place u v w)
 
 -- the place of a facet of four vertices
 abbrev pub AtFacet : ℕ → ℕ → ℕ → ℕ → ℕ → Type 0
 AtFacet a b c d k = ((k ≡ place b c d ⊎ k ≡ place a c d) ⊎ k ≡ place a b d) ⊎ k ≡ place a b c
 
 -- tetrahedron e at its four facets
-abbrev pub OfTet : ℕ → ℕ → ℕ → ℕ → ℕ → ℕ → ℕ → Type 0
-OfTet e a b c d k m = (m ≡ e) × AtFacet a b c d k
+abbrev pub OfTet : ℕ → ℕ → ℕ → ℕ → ℕ → ℕ × ℕ → Type 0
+OfTet e a b c d t = (t .1 ≡ e) × AtFacet a b c d (t .0)
 
--- m is one of the first i tetrahedra, and k the place of a facet of it
-pub record Below (ls : List ℕ) (i k m : ℕ) : Type 0 where
-  pub before : m < i
-  pub held : AtFacet (getD ls (4 * m) 0) (getD ls (4 * m + 1) 0) (getD ls (4 * m + 2) 0) (getD ls (4 * m + 3) 0) k
+-- what tetrahedron i asks for
+abbrev pub OfNumber : List ℕ → ℕ → ℕ × ℕ → Type 0
+OfNumber ls i = OfTet i (getD ls (4 * i) 0) (getD ls (4 * i + 1) 0) (getD ls (4 * i + 2) 0) (getD ls (4 * i + 3) 0)

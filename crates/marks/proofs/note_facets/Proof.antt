@@ -4,19 +4,21 @@ use Prim.Native.Nat.{_/_, _-_, _≤_}
 use lib.ListN.{length}
 use native.Mathlib.Omega.{arith}
 use borrow.Author.Needs.{needs}
-use Rattle.marks.specs.Marks.{Notes, Below}
-use Rattle.marks.proofs.Noting.{notes-none, notes-next, all-marked}
+use Rattle.base.specs.Stores.{Below}
+use Rattle.base.proofs.Stores.{stores-none, stores-next}
+use Rattle.marks.specs.Marks.{Notes, OfNumber}
+use Rattle.marks.proofs.Noting.{all-marked}
 use Rattle.marks.proofs.note_facets.Statement.{statement}
 use Rattle.marks.proofs.note_facets.Tie as tie
 
 abbrev Inv-loop : tie.InvT-loop
-Inv-loop labels marks₀ t i₀ marks i = (i ≤ length labels / 4) × Notes marks₀ marks (Below labels i)
+Inv-loop labels marks₀ t i₀ marks i = (i ≤ length labels / 4) × Notes marks₀ marks (Below (OfNumber labels) i)
 
 abbrev μ-loop : tie.MeasureT-loop
 μ-loop labels marks₀ t i₀ marks i = length labels / 4 - i
 
 loop-holds : tie.Need-loop-holds Inv-loop μ-loop
-loop-holds c = (omega arith, notes-none _ _)
+loop-holds c = (omega arith, stores-none _ _)
 
 mul-at : tie.Need-mul-at Inv-loop μ-loop
 mul-at c = omega arith
@@ -64,7 +66,9 @@ loop-less : tie.Need-loop-less Inv-loop μ-loop
 loop-less c = omega arith
 
 loop-again : tie.Need-loop-again Inv-loop μ-loop
-loop-again c = (omega arith, notes-next _ (c .before .before .before .before .before .before .before .before .before .loop .i) (c .before .before .before .before .before .before .before .before .before .loop .inv .1) (c .before .before .note-tet .ensures))
+loop-again c =
+    let l = c .before .before .before .before .before .before .before .before .before in
+    (omega arith, stores-next (OfNumber (l .before .before .before .args .labels .now)) (l .loop .i) (l .loop .inv .1) (c .before .before .note-tet .ensures))
 
 same-length : tie.Need-same-length Inv-loop μ-loop
 same-length c = c .before .loop .inv .1 .same

@@ -3,19 +3,21 @@ use mathlib.Core.Path.{_≡_, _∙_}
 use Prim.Native.Nat.{_/_, _-_, _≤_}
 use lib.ListN.{length}
 use native.Mathlib.Omega.{arith}
-use Rattle.pairs.specs.Pairs.{Puts, Below}
-use Rattle.pairs.proofs.Telling.{puts-none, puts-next, all-told}
+use Rattle.base.specs.Stores.{Below}
+use Rattle.base.proofs.Stores.{stores-none, stores-next}
+use Rattle.pairs.specs.Pairs.{Puts, OfNumber}
+use Rattle.pairs.proofs.Telling.{all-told}
 use Rattle.pairs.proofs.put_all.Statement.{statement}
 use Rattle.pairs.proofs.put_all.Tie as tie
 
 abbrev Inv-loop : tie.InvT-loop
-Inv-loop labels pairs₀ t i₀ pairs i = (i ≤ length labels / 4) × Puts pairs₀ pairs (Below labels i)
+Inv-loop labels pairs₀ t i₀ pairs i = (i ≤ length labels / 4) × Puts pairs₀ pairs (Below (OfNumber labels) i)
 
 abbrev μ-loop : tie.MeasureT-loop
 μ-loop labels pairs₀ t i₀ pairs i = length labels / 4 - i
 
 loop-holds : tie.Need-loop-holds Inv-loop μ-loop
-loop-holds c = (omega arith, puts-none _ _)
+loop-holds c = (omega arith, stores-none _ _)
 
 mul-at : tie.Need-mul-at Inv-loop μ-loop
 mul-at c = omega arith
@@ -69,8 +71,8 @@ loop-less c = omega arith
 
 loop-again : tie.Need-loop-again Inv-loop μ-loop
 loop-again c =
-    let l = c .before .before .before .before .before .before .before .before .before .loop in
-    (omega arith, puts-next _ (l .i) (l .inv .1) (c .before .before .put-tet .ensures))
+    let l = c .before .before .before .before .before .before .before .before .before in
+    (omega arith, stores-next (OfNumber (l .before .before .before .args .labels .now)) (l .loop .i) (l .loop .inv .1) (c .before .before .put-tet .ensures))
 
 same-length : tie.Need-same-length Inv-loop μ-loop
 same-length c = c .before .loop .inv .1 .same
