@@ -246,6 +246,7 @@ pub struct Linking {
 // Of two vertices, one with the most neighbours.
 pub fn fuller(labels: &[u16], n: usize, table: &[u16], marks: &[u8], x: Vertex, y: Vertex) -> u16
     requires { ⌜ Lent (now labels) n (now table) (now marks) ⌝ }
+    ensures { λ r. ⌜ (r ≡ x .0) ⊎ (r ≡ y .0) ⌝ }
 {
     let p = row_of(labels, n, table, x);
     let q = row_of(labels, n, table, y);
@@ -377,6 +378,7 @@ pub fn sole(
 // Of the vertices that may make a facet with u and w, one with the most neighbours; where there is none or both have many, no vertex.
 pub fn fullest(labels: &[u16], n: usize, table: &[u16], marks: &[u8], u: Vertex, w: Vertex) -> u16
     requires { ⌜ Lent (now labels) n (now table) (now marks) ⌝ }
+    ensures { λ r. ⌜ (r ≡ 65535) ⊎ (noted (now (marks .entry)) (u .0) (w .0) r ≡ true) ⌝ }
 {
     let row = shorter(labels, n, table, marks, u, w);
     if MANY < row.size {

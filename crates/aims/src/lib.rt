@@ -299,8 +299,8 @@ pub fn hunt(
 
 // ---- where to look ahead
 
-// Whether to look ahead at row x: it has a pair of places, and both joined corners have many neighbours.
-pub fn is_hub(tables: &[u8], x: usize, size: usize) -> bool
+// Row x has a pair of places, and the joined corners have many neighbours: the shorter row of theirs has this size.
+fn is_hub(tables: &[u8], x: usize, size: usize) -> bool
     requires { ⌜ now tables ≡ levels ⌝ }
     requires { ⌜ x < 19 ⌝ }
     ensures { λ r. ⌜ (r ≡ true → eqb (look x 0) (look x 1) ≡ false) ⌝ }
@@ -332,7 +332,7 @@ fn pair_size(
 }
 
 // Whether looking ahead pays where a row of this size would be gone through: a pair of row x has few neighbours beside it.
-pub fn is_far(
+fn is_far(
     tables: &[u8],
     labels: &[u16],
     n: usize,
@@ -348,4 +348,23 @@ pub fn is_far(
         return true;
     }
     pair_size(tables, labels, n, table, t, x, 3) <= most
+}
+
+// Whether to look ahead at row x, where a row of this size would be gone through.
+pub fn looks_ahead(
+    tables: &[u8],
+    labels: &[u16],
+    n: usize,
+    table: &[u16],
+    t: [u16; 8],
+    x: usize,
+    size: usize,
+) -> bool
+    requires { ⌜ (now tables ≡ levels) × (Tabled (meshOf [] (now labels) []) n (now table) × (x < 19)) ⌝ }
+    ensures { λ r. ⌜ (r ≡ true → eqb (look x 0) (look x 1) ≡ false) ⌝ }
+{
+    if is_hub(tables, x, size) {
+        return is_far(tables, labels, n, table, t, x, size);
+    }
+    false
 }

@@ -2,8 +2,7 @@
 // A tuple is kept in search order; x is the row of a place in the tables of the levels.
 use ahead::fewer;
 use aims::hunt;
-use aims::is_far;
-use aims::is_hub;
+use aims::looks_ahead;
 use candidates::meet_rows;
 use candidates::nearer;
 use candidates::partner;
@@ -82,10 +81,8 @@ fn seek(
     let s = row_of(labels, n, table, Vertex(t[third_of(tables, x)]));
     let f = nearer(tables, x, r, q);
     let one = fewer(f, s);
-    if is_hub(tables, x, one.size) {
-        if is_far(tables, labels, n, table, t, x, one.size) {
-            return hunt(tables, coords, labels, n, table, marks, t, x, d, from);
-        }
+    if looks_ahead(tables, labels, n, table, t, x, one.size) {
+        return hunt(tables, coords, labels, n, table, marks, t, x, d, from);
     }
     let two = partner(f, s);
     meet_rows(tables, coords, marks, n, table, one, two, t, x, d, from)

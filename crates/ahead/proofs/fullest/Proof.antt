@@ -1,15 +1,18 @@
 -- `ahead::fullest` meets its contract. Assumes nothing.
-use mathlib.Core.Path.{_≡_, refl}
+use mathlib.Core.Path.{_≡_, refl, sym, _∙_}
+use mathlib.Core.Logic.{_⊎_, inl, inr}
+use mathlib.Core.Bool.{true}
 use Prim.Native.Nat.{_-_}
 use native.Mathlib.Omega.{arith}
 use lib.ListN.{length}
+use Rattle.marks.specs.Marks.{noted}
 use Rattle.ahead.proofs.Entries.{row-inside}
 use borrow.Author.Needs.{needs}
 use Rattle.ahead.proofs.fullest.Statement.{statement}
 use Rattle.ahead.proofs.fullest.Tie as tie
 
 abbrev Inv-loop : tie.InvT-loop
-Inv-loop labels n table marks u w from end part p₀ k₀ p k = k ≡ k
+Inv-loop labels n table marks u w from end part p₀ k₀ p k = (p ≡ 65535) ⊎ (noted marks (u .0) (w .0) p ≡ true)
 
 abbrev μ-loop : tie.MeasureT-loop
 μ-loop labels n table marks u w from end part p₀ k₀ p k = length part - k
@@ -18,7 +21,7 @@ shorter-requires : tie.Need-shorter-requires Inv-loop μ-loop
 shorter-requires c κs = c .before .before .before .pre
 
 returns : tie.Need-returns Inv-loop μ-loop
-returns c = search needs
+returns c = inl refl
 
 add-end : tie.Need-add-end Inv-loop μ-loop
 add-end c = omega (arith, row-inside (c .before .before .before .shorter .ensures))
@@ -36,7 +39,7 @@ part-part-end : tie.Need-part-part-end Inv-loop μ-loop
 part-part-end c = omega (arith, row-inside (c .before .before .before .shorter .ensures))
 
 loop-holds : tie.Need-loop-holds Inv-loop μ-loop
-loop-holds c = refl
+loop-holds c = inl refl
 
 mul-t18 : tie.Need-mul-t18 Inv-loop μ-loop
 mul-t18 c = omega arith
@@ -63,10 +66,15 @@ loop-less : tie.Need-loop-less Inv-loop μ-loop
 loop-less c = omega arith
 
 loop-again : tie.Need-loop-again Inv-loop μ-loop
-loop-again c = refl
+loop-again c =
+    let o = c .before .before .before .before .loop .inv in
+    elim (c .if2 .came) [
+      | inl z ↦ elim (z .2 .ensures) [ inl q ↦ inr (rw (z .3 ∙ q) (sym (c .before .is-noted .ensures) ∙ z .0 .taken)) | inr q ↦ rw (z .3 ∙ q) o ]
+      | inr z ↦ rw (z .1) o
+    ]
 
 returns-2 : tie.Need-returns-2 Inv-loop μ-loop
-returns-2 c = search needs
+returns-2 c = c .before .loop .inv
 
 pub fullest-spec : {M : Type 1} → statement M
 fullest-spec =

@@ -83,21 +83,15 @@ nearer-requires c κs =
 fewer-requires : tie.Need-fewer-requires
 fewer-requires c κs = search needs
 
-is-hub-requires : tie.Need-is-hub-requires
-is-hub-requires c κs =
+looks-ahead-requires : tie.Need-looks-ahead-requires
+looks-ahead-requires c κs =
     let b = c .before .before .before .before .before .before .before .before .before in
-    let z = b .before .before .before .before .before .before in
-    (z .pre .0, omega (arith, row-in (z .args .kind) (z .args .d) (z .pre .1 .1), b .base-of .ensures .0))
-
-is-far-requires : tie.Need-is-far-requires
-is-far-requires c κs =
-    let b = c .before .before .before .before .before .before .before .before .before .before .before in
     let z = b .before .before .before .before .before .before in
     (z .pre .0, (z .pre .1 .0 .lent .tabled, omega (arith, row-in (z .args .kind) (z .args .d) (z .pre .1 .1), b .base-of .ensures .0)))
 
 hunt-requires : tie.Need-hunt-requires
 hunt-requires c κs =
-    let b = c .before .before .before .before .before .before .before .before .before .before .before .before .before in
+    let b = c .before .before .before .before .before .before .before .before .before .before .before in
     let z = b .before .before .before .before .before .before in
     let g = z .pre .1 .0 in
     let i = row-in (z .args .kind) (z .args .d) (z .pre .1 .1) in
@@ -105,15 +99,15 @@ hunt-requires c κs =
 
 returns-2 : tie.Need-returns-2
 returns-2 c =
-    let b = c .before .before .before .before .before .before .before .before .before .before .before .before .before .before in
+    let b = c .before .before .before .before .before .before .before .before .before .before .before .before in
     let z = b .before .before .before .before .before .before in
     let a = z .args in
     let g = z .good .1 .1 .1 .1 .1 .1 .1 .0 in
     let l : length (a .t8) ≡ 8 = search needs in
     let q : b .base-of .result + a .d ≡ base (a .kind) + a .d = ap (λ y. y + a .d) (b .base-of .ensures .0) in
-    let pair = c .before .before .before .before .is-hub .ensures (c .before .before .before .if2 .taken) in
+    let pair = c .before .before .looks-ahead .ensures (c .before .if2 .taken) in
     λ ps.
-    raised-skips (a .coords .now) (a .labels .now) ps (a .kind) (z .pre .1 .1) (rw q at (c .before .before .before .before .before .before .before .before .before .before .before .before .before .rise .ensures))
+    raised-skips (a .coords .now) (a .labels .now) ps (a .kind) (z .pre .1 .1) (rw q at (c .before .before .before .before .before .before .before .before .before .before .before .rise .ensures))
     (hunt-skips (a .coords .now) (a .labels .now) ps (z .pre .1 .0 .lent .marked) (omega (arith, points-are (z .pre .1 .0) (a .kind) (a .t8) ps, z .pre .1 .0 .lent .few)) (a .kind) (a .t8) (a .d) (z .pre .1 .1) (omega (arith, row-in (a .kind) (a .d) (z .pre .1 .1))) (rw q at pair) (rw q at (c .hunt .ensures)))
 
 partner-requires : tie.Need-partner-requires
@@ -167,8 +161,7 @@ seek-spec =
     row-of-requires-3
     nearer-requires
     fewer-requires
-    is-hub-requires
-    is-far-requires
+    looks-ahead-requires
     hunt-requires
     returns-2
     partner-requires
