@@ -5,16 +5,24 @@ use space::tet_has;
 ghost use Prim.Native.Nat.{_/_, _<_, _≤_};
 ghost use lib.ListN.{length};
 
-// A tuple to try, where there is some.
-pub struct Guess {
+// Two tetrahedra with a facet in common, where there is one: its vertices x, y, z, and u and w on either side.
+pub struct Pair {
     pub some: bool,
-    pub tuple: [u16; 8],
+    pub u: u16,
+    pub w: u16,
+    pub x: u16,
+    pub y: u16,
+    pub z: u16,
 }
 
-fn none() -> Guess {
-    Guess {
+fn none() -> Pair {
+    Pair {
         some: false,
-        tuple: [0; 8],
+        u: 0,
+        w: 0,
+        x: 0,
+        y: 0,
+        z: 0,
     }
 }
 
@@ -53,19 +61,8 @@ fn least_first(a: u16, b: u16, c: u16, d: u16, apex: u16) -> [u16; 8] {
     if s[0] < t[0] { s } else { t }
 }
 
-// A pyramid over the facet x, y, z between u and w: each of the facet's vertices may be the apex, z where k is 0, x where it is 1, and else y.
-fn over(u: u16, w: u16, x: u16, y: u16, z: u16, k: usize) -> [u16; 8] {
-    if k == 0 {
-        return least_first(u, x, w, y, z);
-    }
-    if k == 1 {
-        return least_first(u, y, w, z, x);
-    }
-    least_first(u, z, w, x, y)
-}
-
-// The same over the facet of e that lies opposite its place i. Turned by one place, four vertices are mirrored: at places 1 and 3 two are exchanged.
-fn across(labels: &[u16], e: Tet, i: usize, w: u16, k: usize) -> [u16; 8]
+// The facet of e that lies opposite its place i, and w behind it. Turned by one place, four vertices are mirrored: at places 1 and 3 two are exchanged.
+fn across(labels: &[u16], e: Tet, i: usize, w: u16) -> Pair
     requires { ⌜ (e .0 < length (now labels) / 4) × (i < 4) ⌝ }
 {
     let at = 4 * (e.0 as usize);
@@ -73,28 +70,49 @@ fn across(labels: &[u16], e: Tet, i: usize, w: u16, k: usize) -> [u16; 8]
     let x = labels[at + (i + 1) % 4];
     let y = labels[at + (i + 2) % 4];
     let z = labels[at + (i + 3) % 4];
+    let some = true;
     if i % 2 == 0 {
-        over(u, w, x, y, z, k)
-    } else {
-        over(u, w, x, z, y, k)
+        return Pair {
+            some,
+            u,
+            w,
+            x,
+            y,
+            z,
+        };
+    }
+    Pair {
+        some,
+        u,
+        w,
+        x,
+        y: z,
+        z: y,
     }
 }
 
-// One of three pyramids of e and m, by its number k, where they have a facet in common.
-pub fn pyramid_of(labels: &[u16], e: Tet, m: Tet, k: usize) -> Guess
+// The pair of e and m, where they have a facet in common.
+pub fn pair_of(labels: &[u16], e: Tet, m: Tet) -> Pair
     requires { ⌜ (e .0 < length (now labels) / 4) × (m .0 < length (now labels) / 4) ⌝ }
 {
     let i = lone(labels, e, m);
-    let j = lone(labels, m, e);
     if i == 4 {
         return none();
     }
+    let j = lone(labels, m, e);
     if j == 4 {
         return none();
     }
-    let w = labels[4 * (m.0 as usize) + j];
-    Guess {
-        some: true,
-        tuple: across(labels, e, i, w, k),
+    across(labels, e, i, labels[4 * (m.0 as usize) + j])
+}
+
+// A pyramid of the pair: each of the facet's vertices may be the apex, z where k is 0, x where it is 1, and else y.
+pub fn pyramid(p: Pair, k: usize) -> [u16; 8] {
+    if k == 0 {
+        return least_first(p.u, p.x, p.w, p.y, p.z);
     }
+    if k == 1 {
+        return least_first(p.u, p.y, p.w, p.z, p.x);
+    }
+    least_first(p.u, p.z, p.w, p.x, p.y)
 }

@@ -4,7 +4,8 @@ mod guess;
 
 use around::rarest;
 use around::row_of;
-use guess::pyramid_of;
+use guess::pair_of;
+use guess::pyramid;
 use space::Tet;
 use space::Vertex;
 use verdict::is_leaf;
@@ -38,7 +39,47 @@ fn is_seen(
     v.yes
 }
 
-// A pyramid of e and one of the row: of each there are three guesses.
+// A pyramid of e and m: of three, where they have a facet in common.
+fn is_beside(
+    coords: &[i64],
+    labels: &[u16],
+    parts: &[u16],
+    n: usize,
+    offsets: &[u16],
+    entries: &[u16],
+    lo: usize,
+    e: Tet,
+    m: Tet,
+) -> bool
+    requires { ⌜ Arrays (now coords) (now labels) (now parts) n (now offsets) (now entries) ⌝ }
+    requires { ⌜ (e .0 < length (now labels) / 4) × (m .0 < length (now labels) / 4) ⌝ }
+    ensures { λ r. ⌜ (r ≡ true → Seen (meshOf (now (coords .entry)) (now (labels .entry)) (now (parts .entry))) lo) ⌝ }
+{
+    let p = pair_of(labels, e, m);
+    if !p.some {
+        return false;
+    }
+    let s = pyramid(p, 0);
+    if is_seen(coords, labels, parts, n, offsets, entries, lo, s) {
+        return true;
+    }
+    let t = pyramid(p, 1);
+    if is_seen(coords, labels, parts, n, offsets, entries, lo, t) {
+        return true;
+    }
+    is_seen(
+        coords,
+        labels,
+        parts,
+        n,
+        offsets,
+        entries,
+        lo,
+        pyramid(p, 2),
+    )
+}
+
+// A pyramid of e and one of the row.
 fn is_in(
     coords: &[i64],
     labels: &[u16],
@@ -55,14 +96,10 @@ fn is_in(
     ensures { λ r. ⌜ (r ≡ true → Seen (meshOf (now (coords .entry)) (now (labels .entry)) (now (parts .entry))) lo) ⌝ }
 {
     let mut k = 0;
-    while k / 3 < row.len() {
-        let m = row[k / 3];
-        let g = pyramid_of(labels, e, Tet(m), k % 3);
-        let t = g.tuple;
-        if g.some {
-            if is_seen(coords, labels, parts, n, offsets, entries, lo, t) {
-                return true;
-            }
+    while k < row.len() {
+        let m = row[k];
+        if is_beside(coords, labels, parts, n, offsets, entries, lo, e, Tet(m)) {
+            return true;
         }
         k += 1;
     }

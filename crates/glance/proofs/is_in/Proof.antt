@@ -1,5 +1,5 @@
 -- `glance::is_in` meets its contract. Assumes nothing.
-use Prim.Native.Nat.{_*_, _/_, _-_, _≤_}
+use Prim.Native.Nat.{_-_, _≤_}
 use mathlib.Core.Path.{sym}
 use mathlib.Core.Bool.{true≢false}
 use lib.ListN.{length}
@@ -8,10 +8,10 @@ use Rattle.glance.proofs.is_in.Statement.{statement}
 use Rattle.glance.proofs.is_in.Tie as tie
 
 abbrev Inv-loop : tie.InvT-loop
-Inv-loop coords labels parts n offsets entries lo row e k₀ k = k ≤ 3 * length row
+Inv-loop coords labels parts n offsets entries lo row e k₀ k = k ≤ length row
 
 abbrev μ-loop : tie.MeasureT-loop
-μ-loop coords labels parts n offsets entries lo row e k₀ k = 3 * length row - k
+μ-loop coords labels parts n offsets entries lo row e k₀ k = length row - k
 
 loop-holds : tie.Need-loop-holds Inv-loop μ-loop
 loop-holds c = omega arith
@@ -22,16 +22,13 @@ mul-m c = omega arith
 shared-slice-read-m : tie.Need-shared-slice-read-m Inv-loop μ-loop
 shared-slice-read-m c = omega arith
 
-pyramid-of-requires : tie.Need-pyramid-of-requires Inv-loop μ-loop
-pyramid-of-requires c κs =
+is-beside-requires : tie.Need-is-beside-requires Inv-loop μ-loop
+is-beside-requires c κs =
     let s = c .before .before .before .before .before .before .before .before in
-    (s .pre .1 .0, s .pre .1 .1 .below (c .before .before .loop .k / 3) (omega arith))
-
-is-seen-requires : tie.Need-is-seen-requires Inv-loop μ-loop
-is-seen-requires c κs = c .before .before .before .before .before .before .before .before .before .before .before .pre .0
+    (s .pre .0, (s .pre .1 .0, s .pre .1 .1 .below (c .before .before .loop .k) (omega arith)))
 
 returns : tie.Need-returns Inv-loop μ-loop
-returns c y = c .before .is-seen .ensures (c .if2 .taken)
+returns c y = c .before .is-beside .ensures (c .if1 .taken)
 
 add-k : tie.Need-add-k Inv-loop μ-loop
 add-k c = omega arith
@@ -54,8 +51,7 @@ is-in-spec =
     loop-holds
     mul-m
     shared-slice-read-m
-    pyramid-of-requires
-    is-seen-requires
+    is-beside-requires
     returns
     add-k
     loop-less
