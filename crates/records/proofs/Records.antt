@@ -28,7 +28,7 @@ use Rattle.rule.proofs.OneKind.{flat-pyramid}
 use Rattle.rule.proofs.Next.{later-all, later-own, pyramid-remains}
 use Rattle.glance.specs.Seen.{Seen}
 use Rattle.records.specs.declared.Mark.{Mark}
-use Rattle.records.specs.declared.Answer.the-variants.{Refused, Long, Given}
+use Rattle.records.specs.declared.Answer.the-variants.{Refused, Given}
 use Rattle.records.specs.Marks.{letters, markOf, Written}
 use Rattle.records.specs.Records.{cornersOf, cellMarked, Came, headOf}
 
@@ -59,10 +59,9 @@ module _ (m : Mesh) (j : List ℕ) {f : Tets} (x : Found (cellMarked m j .tets) 
 
 module _ (m : Mesh) where
   -- no room for a record
-  pub written-short : (k old : List ℕ) → length old < tetRule .size → Written m k old (Refused 11) old
+  pub written-short : (k old : List ℕ) → length old < tetRule .size → Written m k old (Refused 11 0) old
   written-short k old h = record {
     outcome = outcome-short tetRule (fullList m) (lawful m) k old h;
-    plain = refl;
     counted = ap (λ p. length (p .written)) (portion-short tetRule (fullList m) (lawful m) k (length old) h);
   }
 
@@ -75,7 +74,6 @@ module _ (m : Mesh) where
       pub written-none : (e : Mark) → markOf e ≡ tetRule .end → left ≡ false → Written m k old (Given i true e) l
       written-none e q t = record {
         outcome = rw q (outcome-none tetRule (fullList m) (lawful m) x wide n t);
-        plain = refl;
         counted = counted-as (portion-none tetRule (fullList m) (lawful m) wide (x .under) (sym n ∙ t));
       }
 
@@ -83,15 +81,13 @@ module _ (m : Mesh) where
       pub written-full : (e : Mark) → markOf e ≡ j → left ≡ true → i ≡ length old / tetRule .size → Written m k old (Given i false e) l
       written-full e q t h = record {
         outcome = rw q (outcome-full tetRule (fullList m) (lawful m) x wide n t h);
-        plain = refl;
         counted = counted-as (portion-full tetRule (fullList m) (lawful m) wide (x .under) (sym n ∙ t) (x .counted ∙ h));
       }
 
     -- a cell is left, with room for it, that no record can hold
-    pub written-long : tetRule .size ≤ length old → {found : Bool} {j′ : List ℕ} {f : Tets} → Came m j found j′ f → found ≡ true → i < length old / tetRule .size → tetRule .fits (cellMarked m j′) ≡ false → Written m k old (Long i) l
+    pub written-long : tetRule .size ≤ length old → {found : Bool} {j′ : List ℕ} {f : Tets} → Came m j found j′ f → found ≡ true → i < length old / tetRule .size → tetRule .fits (cellMarked m j′) ≡ false → Written m k old (Refused 12 i) l
     written-long wide n t h u = record {
       outcome = outcome-long tetRule (fullList m) (lawful m) x wide (n .next) t h u;
-      plain = refl;
       counted = counted-as (portion-long tetRule (fullList m) (lawful m) wide (x .under) (next-is tetRule (fullList m) (lawful m) t (n .next)) (omega (arith, x .counted)) u);
     }
 

@@ -46,10 +46,13 @@ pub struct Step {
     pub tets: Tets,
 }
 
-// A refusal by its number. `Long` is refusal 12 after this many records: the next cell has more than 25 tetrahedra.
+// A refusal by its number, with how many records were written before it: only 12, where the next cell has more than 25
+// tetrahedra, comes after any.
 pub enum Answer {
-    Refused(u8),
-    Long(usize),
+    Refused {
+        number: u8,
+        written: usize,
+    },
     Given {
         count: usize,
         none_remain: bool,
@@ -404,7 +407,10 @@ pub fn write_cells(
     ensures { λ r. ⌜ Written (meshOf (now (coords .entry)) (now (labels .entry)) (now (parts .entry))) (markOf mark) (now (records .entry)) r (now (records .exit)) ⌝ }
 {
     if records.len() < SIZE {
-        return Answer::Refused(11);
+        return Answer::Refused {
+            number: 11,
+            written: 0,
+        };
     }
     let most = records.len() / SIZE;
     let mut i: usize = 0;
@@ -458,7 +464,10 @@ pub fn write_cells(
         let c = s.mark;
         let tets = s.tets;
         if 25 < tets.count {
-            return Answer::Long(i);
+            return Answer::Refused {
+                number: 12,
+                written: i,
+            };
         }
         put_record(records, i * SIZE, c, tets);
         i += 1;
