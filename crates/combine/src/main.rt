@@ -7,7 +7,7 @@
 //
 // What is listed is the promise of `listing::portion`, and what a line says that of `lines`; here stand only the reading
 // and the writing. A write that fails ends the program at once, so that no last line follows a cell that was lost.
-use layout::Headed;
+use arrays::Checked;
 use libc::STDERR_FILENO;
 use libc::STDIN_FILENO;
 use libc::STDOUT_FILENO;
@@ -59,14 +59,12 @@ fn show_numbers(out: &mut [u8], word: &[u8], numbers: &[u16]) -> bool
 fn show_mesh(out: &mut [u8], file: &[u8]) -> bool
     requires { ⌜ length (now out) ≡ 65536 ⌝ }
 {
-    match layout::header(file) {
-        Headed::Sound { vertices, tets } => {
+    match arrays::header(file) {
+        Checked::Accepted { vertices, tets } => {
             let counts = [(vertices % 65536) as u16, (tets % 65536) as u16];
             show_numbers(out, b"mesh", &counts)
         }
-        Headed::Length => false,
-        Headed::Counts => false,
-        Headed::Layout => false,
+        Checked::Refused(_) => false,
     }
 }
 
@@ -126,12 +124,12 @@ fn told(
     requires { ⌜ length (now out) ≡ 65536 ⌝ }
 {
     match answer {
-        Answer::Refused(number) => {
-            show_number(out, b"refused", number as u64);
-            Step::Done
-        }
-        Answer::Long(count) => {
-            if given(out, file, records, before, count) {
+        Answer::Refused { number, written } => {
+            if number != 12 {
+                show_number(out, b"refused", number as u64);
+                return Step::Done;
+            }
+            if given(out, file, records, before, written) {
                 show_number(out, b"refused", 12);
             }
             Step::Done

@@ -20,7 +20,7 @@ use Rattle.around.proofs.Around.{count-map}
 use Rattle.pairs.specs.declared.Pair.{Pair}
 use Rattle.pairs.specs.Pairs.{Names}
 use Rattle.facets.specs.Facets.{full, clashes, clashing, Tries}
-use Rattle.facets.proofs.Sound.{none-at}
+use Rattle.tets.proofs.Labelled.{none-at}
 use Rattle.facets.proofs.Tests.{clash-has}
 
 -- ---- counts

@@ -1,127 +1,24 @@
-// What is asked of the tetrahedra of a mesh: refusals 5 to 9, over the working arrays.
-use around::index;
+// What is asked of the tetrahedra that share a facet: refusals 8 and 9, over the working arrays with their index.
 use around::rarest;
 use around::row_of;
 use around::sharing;
 use pairs::pair_of;
-use pairs::put_all;
 use space::Tet;
 use space::Vertex;
-use space::point_at;
 use space::tet_has3;
-use space::volume;
+use tets::box_at;
+use tets::corners;
 ghost use mathlib.Core.Path.{_≡_};
 ghost use mathlib.Core.List.{[], _∷_};
-ghost use mathlib.Core.Bool.{true, not};
-ghost use Prim.Native.Nat.{_/_, _≤_, _<_};
-ghost use lib.Dec.{leb};
+ghost use mathlib.Core.Bool.{true};
+ghost use Prim.Native.Nat.{_/_, _<_};
 ghost use lib.ListN.{length};
-ghost use Rattle.base.specs.Lists.{any, upTo, distinct};
+ghost use Rattle.base.specs.Lists.{any, distinct};
 ghost use Rattle.space.specs.Arrays.{Close, row4};
-ghost use Rattle.around.specs.Index.{Labelled, Indexed};
+ghost use Rattle.around.specs.Index.{Indexed};
 ghost use Rattle.around.specs.Build.{Within};
 ghost use Rattle.pairs.specs.Pairs.{Paired};
-ghost use Rattle.facets.specs.Facets.{boxAt, opposite, outside, twice, flat, full, crowded, astray, clashes, clashing, Tries, folded, refused5, refused6, refused7, refused8, refused9, faultOf, Workable};
-
-// The four vertices of a tetrahedron.
-fn corners(labels: &[u16], e: Tet) -> [u16; 4]
-    requires { ⌜ e .0 < length (now labels) / 4 ⌝ }
-    ensures { λ r. ⌜ r ≡ row4 (now (labels .entry)) (e .0) ⌝ }
-{
-    let at = 4 * (e.0 as usize);
-    [labels[at], labels[at + 1], labels[at + 2], labels[at + 3]]
-}
-
-// ---- 5
-
-fn is_past(n: usize, v: Vertex) -> bool
-    ensures { λ r. ⌜ r ≡ leb n (v .0) ⌝ }
-{
-    n <= v.0 as usize
-}
-
-fn is_outside(n: usize, labels: &[u16], e: Tet) -> bool
-    requires { ⌜ e .0 < length (now labels) / 4 ⌝ }
-    ensures { λ r. ⌜ r ≡ outside n (now (labels .entry)) (e .0) ⌝ }
-{
-    let c = corners(labels, e);
-    if is_past(n, Vertex(c[0])) {
-        return true;
-    }
-    if is_past(n, Vertex(c[1])) {
-        return true;
-    }
-    if is_past(n, Vertex(c[2])) {
-        return true;
-    }
-    is_past(n, Vertex(c[3]))
-}
-
-// ---- 6
-
-// Two of the four are one.
-fn has_equal(a: u16, b: u16, c: u16, d: u16) -> bool
-    ensures { λ r. ⌜ r ≡ not (distinct (a ∷ b ∷ c ∷ d ∷ [])) ⌝ }
-{
-    if a == b {
-        return true;
-    }
-    if a == c {
-        return true;
-    }
-    if a == d {
-        return true;
-    }
-    if b == c {
-        return true;
-    }
-    if b == d {
-        return true;
-    }
-    if c == d {
-        return true;
-    }
-    false
-}
-
-fn names_twice(labels: &[u16], e: Tet) -> bool
-    requires { ⌜ e .0 < length (now labels) / 4 ⌝ }
-    ensures { λ r. ⌜ r ≡ twice (now (labels .entry)) (e .0) ⌝ }
-{
-    let c = corners(labels, e);
-    has_equal(c[0], c[1], c[2], c[3])
-}
-
-// ---- 7
-
-// box(a; b, c, d) of four vertices.
-fn box_at(coords: &[i64], a: Vertex, b: Vertex, c: Vertex, d: Vertex) -> i64
-    requires { ⌜ Close (now coords) ⌝ }
-    ensures { λ r. ⌜ r ≡ boxAt (now (coords .entry)) (a .0) (b .0) (c .0) (d .0) ⌝ }
-{
-    volume(
-        point_at(coords, a),
-        point_at(coords, b),
-        point_at(coords, c),
-        point_at(coords, d),
-    )
-}
-
-fn is_flat(coords: &[i64], labels: &[u16], e: Tet) -> bool
-    requires { ⌜ Close (now coords) ⌝ }
-    requires { ⌜ e .0 < length (now labels) / 4 ⌝ }
-    ensures { λ r. ⌜ r ≡ flat (now (coords .entry)) (now (labels .entry)) (e .0) ⌝ }
-{
-    let c = corners(labels, e);
-    box_at(
-        coords,
-        Vertex(c[0]),
-        Vertex(c[1]),
-        Vertex(c[2]),
-        Vertex(c[3]),
-    )
-        <= 0
-}
+ghost use Rattle.facets.specs.Facets.{opposite, full, crowded, astray, clashes, clashing, Tries, folded, anyCrowded, anyFolded};
 
 // ---- 8
 
@@ -399,56 +296,17 @@ fn is_folded(
 
 // ---- over all tetrahedra
 
-fn any_outside(n: usize, labels: &[u16]) -> bool
-    requires { ⌜ length (now labels) ≤ 8192 ⌝ }
-    ensures { λ r. ⌜ r ≡ any (outside n (now (labels .entry))) (upTo (length (now (labels .entry)) / 4)) ⌝ }
-{
-    let t = labels.len() / 4;
-    let mut j = 0;
-    while j < t {
-        if is_outside(n, labels, Tet(j as u16)) {
-            return true;
-        }
-        j += 1;
-    }
-    false
-}
-
-fn any_twice(labels: &[u16]) -> bool
-    requires { ⌜ length (now labels) ≤ 8192 ⌝ }
-    ensures { λ r. ⌜ r ≡ any (twice (now (labels .entry))) (upTo (length (now (labels .entry)) / 4)) ⌝ }
-{
-    let t = labels.len() / 4;
-    let mut j = 0;
-    while j < t {
-        if names_twice(labels, Tet(j as u16)) {
-            return true;
-        }
-        j += 1;
-    }
-    false
-}
-
-fn any_flat(coords: &[i64], labels: &[u16]) -> bool
-    requires { ⌜ Close (now coords) ⌝ }
-    requires { ⌜ length (now labels) ≤ 8192 ⌝ }
-    ensures { λ r. ⌜ r ≡ any (flat (now (coords .entry)) (now (labels .entry))) (upTo (length (now (labels .entry)) / 4)) ⌝ }
-{
-    let t = labels.len() / 4;
-    let mut j = 0;
-    while j < t {
-        if is_flat(coords, labels, Tet(j as u16)) {
-            return true;
-        }
-        j += 1;
-    }
-    false
-}
-
-fn any_crowded(labels: &[u16], n: usize, offsets: &[u16], entries: &[u16], pairs: &[u16]) -> bool
+// Refusal 8: three or more tetrahedra share some facet.
+pub fn any_crowded(
+    labels: &[u16],
+    n: usize,
+    offsets: &[u16],
+    entries: &[u16],
+    pairs: &[u16],
+) -> bool
     requires { ⌜ Indexed (now labels) n (now offsets) (now entries) ⌝ }
     requires { ⌜ Paired (now labels) (now pairs) ⌝ }
-    ensures { λ r. ⌜ r ≡ any (crowded (now (labels .entry))) (upTo (length (now (labels .entry)) / 4)) ⌝ }
+    ensures { λ r. ⌜ r ≡ anyCrowded (now (labels .entry)) ⌝ }
 {
     let t = labels.len() / 4;
     let mut j = 0;
@@ -461,7 +319,8 @@ fn any_crowded(labels: &[u16], n: usize, offsets: &[u16], entries: &[u16], pairs
     false
 }
 
-fn any_folded(
+// Refusal 9: two tetrahedra on one side of a facet that they share.
+pub fn any_folded(
     coords: &[i64],
     labels: &[u16],
     n: usize,
@@ -472,7 +331,7 @@ fn any_folded(
     requires { ⌜ Close (now coords) ⌝ }
     requires { ⌜ Indexed (now labels) n (now offsets) (now entries) ⌝ }
     requires { ⌜ Paired (now labels) (now pairs) ⌝ }
-    ensures { λ r. ⌜ r ≡ any (folded (now (coords .entry)) (now (labels .entry))) (upTo (length (now (labels .entry)) / 4)) ⌝ }
+    ensures { λ r. ⌜ r ≡ anyFolded (now (coords .entry)) (now (labels .entry)) ⌝ }
 {
     let t = labels.len() / 4;
     let mut j = 0;
@@ -483,33 +342,4 @@ fn any_folded(
         j += 1;
     }
     false
-}
-
-// The number of the first of refusals 5 to 9 that applies, each tested over all tetrahedra before the next; 0 where none does.
-pub fn first_fault(coords: &[i64], labels: &[u16]) -> u8
-    requires { ⌜ Workable (now coords) (now labels) ⌝ }
-    ensures { λ r. ⌜ r ≡ faultOf (now (coords .entry)) (now (labels .entry)) ⌝ }
-{
-    let n = coords.len() / 3;
-    if any_outside(n, labels) {
-        return 5;
-    }
-    if any_twice(labels) {
-        return 6;
-    }
-    if any_flat(coords, labels) {
-        return 7;
-    }
-    let mut offsets: [u16; 513] = [0; 513];
-    let mut entries: [u16; 8192] = [0; 8192];
-    index(labels, n, &mut offsets, &mut entries);
-    let mut pairs: [u16; 65536] = [0; 65536];
-    put_all(labels, &mut pairs);
-    if any_crowded(labels, n, &offsets, &entries, &pairs) {
-        return 8;
-    }
-    if any_folded(coords, labels, n, &offsets, &entries, &pairs) {
-        return 9;
-    }
-    0
 }

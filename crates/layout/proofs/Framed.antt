@@ -16,8 +16,7 @@ use Rattle.space.specs.Box.{near}
 use Rattle.space.specs.Arrays.{Close}
 use Rattle.space.proofs.Near.{near-small}
 use Rattle.layout.specs.Bytes.{u16At, u32At, i32At}
-use Rattle.layout.specs.Layout.{vertices, tets, lengthRight, countsRight, layoutRight, headed, Framed, vertexPart, tetPart, coordsIn, labelsIn, partsIn, coordsOf, coordinatesRight}
-use Rattle.layout.specs.declared.Headed.the-variants.{Sound, Length, Counts, Layout}
+use Rattle.layout.specs.Layout.{vertices, tets, lengthRight, countsRight, layoutRight, Framed, vertexPart, tetPart, coordsIn, labelsIn, partsIn}
 
 -- ---- the tests of the header, one by one
 
@@ -53,10 +52,10 @@ unfolding layoutRight
 layout-says f e =
     eqb-true _ _ (and-right (eqb (u32At f 4) 24 && eqb (u32At f 12) (24 + 12 * vertices f)) _ (and-left _ (eqb (u32At f 20) 0) e))
 
--- ---- the header's answer
+-- ---- what the three tell
 
-framed-by : (f : List ℕ) (n t : ℕ) → lengthRight f ≡ true → countsRight f ≡ true → layoutRight f ≡ true → n ≡ vertices f → t ≡ tets f → Framed f n t
-framed-by f n t a b d p q =
+pub framed : (f : List ℕ) (n t : ℕ) → lengthRight f ≡ true → countsRight f ≡ true → layoutRight f ≡ true → n ≡ vertices f → t ≡ tets f → Framed f n t
+framed f n t a b d p q =
     let l = length-says f a in
     let k = counts-say f b in
     record {
@@ -66,16 +65,6 @@ framed-by f n t a b d p q =
       fewTets = omega arith;
       whole = omega (arith, layout-says f d);
     }
-
-pub framed : (f : List ℕ) (n t : ℕ) → headed f ≡ Sound n t → Framed f n t
-unfolding headed
-framed f n t = go (lengthRight f) (countsRight f) (layoutRight f) refl refl refl
-  where
-    go : (a b d : Bool) → lengthRight f ≡ a → countsRight f ≡ b → layoutRight f ≡ d → cond a (cond b (cond d (Sound (vertices f) (tets f)) Layout) Counts) Length ≡ Sound n t → Framed f n t
-    go true true true p q r e = framed-by f n t p q r (cc) (cc)
-    go true true false p q r e = let z : _≡_ {A = ℕ} 0 1 = cc in absurd (omega arith)
-    go true false d p q r e = let z : _≡_ {A = ℕ} 0 1 = cc in absurd (omega arith)
-    go false b d p q r e = let z : _≡_ {A = ℕ} 0 1 = cc in absurd (omega arith)
 
 module _ {f : List ℕ} {n t : ℕ} (h : Framed f n t) where
   -- no legal file has more than 26,648 bytes, and one with 512 vertices and 2,048 tetrahedra has so many
@@ -114,7 +103,3 @@ near-close zs e = record { close = at zs e }
     at [] e i = record { small = omega arith }
     at (z ∷ zs) e zero = near-small z (and-left (near z) (all near zs) e)
     at (z ∷ zs) e (suc i) = at zs (and-right (near z) (all near zs) e) i
-
-pub coordinates-close : (f : List ℕ) → coordinatesRight f ≡ true → Close (coordsOf f)
-unfolding coordinatesRight
-coordinates-close f e = near-close (coordsOf f) e

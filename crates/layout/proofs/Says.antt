@@ -1,15 +1,15 @@
 -- What stands at each place of the lists that the file says, and of its mesh. Assumes nothing.
 use mathlib.Core.Path.{_≡_, _∙_, ap}
 use mathlib.Core.List.{List}
-use Prim.Native.Nat.{ℕ, _+_, _*_, _/_, _%_, _<_}
+use Prim.Native.Nat.{ℕ, _+_, _*_, _/_, _%_, _-_, _<_}
 use native.Mathlib.Omega.{arith}
-use lib.ListN.{length, getD}
-use lib.IntN.{pos}
-use Rattle.base.proofs.Loop.{getD-up}
+use lib.ListN.{length, getD, take, drop}
+use lib.IntN.{ℤ, pos}
+use Rattle.base.proofs.Loop.{getD-up, part-is}
 use Rattle.space.specs.Mesh.{Tetrahedron, point}
 use Rattle.space.specs.Arrays.{pointAt, tetAt}
 use Rattle.layout.specs.Bytes.{u16At, i32At}
-use Rattle.layout.specs.Layout.{vertexPart, tetPart, coordsIn, labelsIn, partsIn, meshIn}
+use Rattle.layout.specs.Layout.{Framed, vertexPart, tetPart, coordsIn, labelsIn, partsIn, coordsOf, labelsOf, partsOf, meshIn}
 use Rattle.layout.proofs.Framed.{coords-long, labels-long}
 
 pub coord-at : (q : List ℕ) (k i : ℕ) → i < k → getD (coordsIn q k) i (pos 0) ≡ i32At q (4 * i)
@@ -69,3 +69,14 @@ module _ (p : List ℕ) (t j : ℕ) (h : j < t) where
 
   pub label3 : getD (labelsIn p (4 * t)) (4 * j + 3) 0 ≡ u16At p (10 * j + 6)
   label3 = label-of p t j 3 h (omega arith)
+
+-- what was read of `&file[24..]` and of `&file[24 + 12 * n..]` is what the file says
+module _ {f : List ℕ} {n t : ℕ} (h : Framed f n t) where
+  pub coords-of-part : {l : List ℤ} {k : ℕ} → l ≡ coordsIn (take (length f - 24) (drop 24 f)) k → k ≡ 3 * n → l ≡ coordsOf f
+  coords-of-part e p = e ∙ rw (part-is 24 f, p, h .vertex)
+
+  pub labels-of-part : {l : List ℕ} {k : ℕ} → l ≡ labelsIn (take (length f - (24 + 12 * n)) (drop (24 + 12 * n) f)) k → k ≡ 4 * t → l ≡ labelsOf f
+  labels-of-part e p = e ∙ rw (part-is (24 + 12 * n) f, p, h .vertex, h .tet)
+
+  pub parts-of-part : {l : List ℕ} {k : ℕ} → l ≡ partsIn (take (length f - (24 + 12 * n)) (drop (24 + 12 * n) f)) k → k ≡ t → l ≡ partsOf f
+  parts-of-part e p = e ∙ rw (part-is (24 + 12 * n) f, p, h .vertex, h .tet)

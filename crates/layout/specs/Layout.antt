@@ -1,20 +1,17 @@
--- A mesh file: its header, its two parts, what they say, and refusals 1 to 4.
+-- A mesh file: its header with what is asked of it (refusals 1 to 3), its two parts, and what they say.
 -- f is the list of the file's bytes.
 -- Assumes nothing.
 use Prim.Native.Nat.{ℕ, _+_, _*_, _/_, _%_, _≤_}
 use mathlib.Core.Path.{_≡_}
 use mathlib.Core.List.{List, map}
-use mathlib.Core.Bool.{Bool, cond, _&&_}
+use mathlib.Core.Bool.{Bool, _&&_}
 use lib.ListN.{length, drop}
 use lib.Dec.{leb, eqb}
 use lib.IntN.{ℤ}
-use Rattle.base.specs.Lists.{all, upTo}
-use Rattle.space.specs.Box.{near}
+use Rattle.base.specs.Lists.{upTo}
 use Rattle.space.specs.Mesh.{Mesh}
 use Rattle.space.specs.Arrays.{meshOf}
 use Rattle.layout.specs.Bytes.{u16At, u32At, i32At}
-use Rattle.layout.specs.declared.Headed.{Headed}
-use Rattle.layout.specs.declared.Headed.the-variants.{Sound, Length, Counts, Layout}
 
 -- ---- the header: vertices, their offset, tetrahedra, their offset, total length, zero
 
@@ -39,18 +36,6 @@ layoutRight f =
     && eqb (u32At f 12) (24 + 12 * vertices f)
     && eqb (u32At f 16) (24 + 12 * vertices f + 10 * tets f)
     && eqb (u32At f 20) 0
-
--- what is answered of a header: the first of 1 to 3 that applies, or the counts
-unfoldable pub headed : List ℕ → Headed
-headed f =
-    cond (lengthRight f) (cond (countsRight f) (cond (layoutRight f) (Sound (vertices f) (tets f)) Layout) Counts) Length
-
--- the number of that answer's refusal, and 0 for a header that is not refused
-abbrev pub headNumber : Headed → ℕ
-headNumber (Sound n t) = 0
-headNumber Length = 1
-headNumber Counts = 2
-headNumber Layout = 3
 
 -- what a header that is not refused tells: n vertices and t tetrahedra, which fill the file to its end
 pub record Framed (f : List ℕ) (n t : ℕ) : Type 0 where
@@ -94,10 +79,6 @@ labelsOf f = labelsIn (tetPart (vertices f) f) (4 * tets f)
 
 abbrev pub partsOf : List ℕ → List ℕ
 partsOf f = partsIn (tetPart (vertices f) f) (tets f)
-
--- not 4: every coordinate in bounds
-unfoldable pub coordinatesRight : List ℕ → Bool
-coordinatesRight f = all near (coordsOf f)
 
 -- the mesh of n vertices and t tetrahedra that the file holds
 abbrev pub meshIn : List ℕ → ℕ → ℕ → Mesh

@@ -1,12 +1,12 @@
-// A mesh file's bytes as numbers: the header with refusals 1 to 3, the bounds on coordinates (4), and the two parts
-// read into arrays that the caller lends. Nothing is assumed of a file before its header is answered `Sound`.
+// A mesh file's bytes as numbers: what is asked of the header (refusals 1 to 3), the two parts read into arrays that the
+// caller lends, and the bounds on coordinates (4).
 ghost use mathlib.Core.Path.{_≡_};
-ghost use Prim.Native.Nat.{_+_, _*_, _/_, _≤_, _<_};
+ghost use Prim.Native.Nat.{_+_, _*_, _≤_, _<_};
 ghost use lib.ListN.{length};
 ghost use Rattle.base.specs.Lists.{all};
 ghost use Rattle.space.specs.Box.{near};
 ghost use Rattle.layout.specs.Bytes.{u16At, u32At, i32At};
-ghost use Rattle.layout.specs.Layout.{vertices, tets, lengthRight, countsRight, layoutRight, headed, coordsIn, labelsIn, partsIn};
+ghost use Rattle.layout.specs.Layout.{vertices, tets, lengthRight, countsRight, layoutRight, Framed, coordsIn, labelsIn, partsIn, coordsOf, labelsOf, partsOf};
 
 // ---- little-endian numbers
 
@@ -50,16 +50,8 @@ pub fn i32_at(s: &[u8], at: usize) -> i64
 
 // ---- the header
 
-// What is answered of a header: the counts, or the refusal.
-pub enum Headed {
-    Sound { vertices: usize, tets: usize },
-    Length,
-    Counts,
-    Layout,
-}
-
 // Not refusal 1.
-fn length_right(file: &[u8]) -> bool
+pub fn length_right(file: &[u8]) -> bool
     ensures { λ r. ⌜ r ≡ lengthRight (now (file .entry)) ⌝ }
 {
     let length = file.len();
@@ -73,7 +65,7 @@ fn length_right(file: &[u8]) -> bool
 }
 
 // Not refusal 2.
-fn counts_right(file: &[u8]) -> bool
+pub fn counts_right(file: &[u8]) -> bool
     requires { ⌜ 24 ≤ length (now file) ⌝ }
     ensures { λ r. ⌜ r ≡ countsRight (now (file .entry)) ⌝ }
 {
@@ -84,7 +76,7 @@ fn counts_right(file: &[u8]) -> bool
 }
 
 // Not refusal 3.
-fn layout_right(file: &[u8]) -> bool
+pub fn layout_right(file: &[u8]) -> bool
     requires { ⌜ (24 ≤ length (now file)) × ((vertices (now file) ≤ 512) × (tets (now file) ≤ 2048)) ⌝ }
     ensures { λ r. ⌜ r ≡ layoutRight (now (file .entry)) ⌝ }
 {
@@ -102,44 +94,10 @@ fn layout_right(file: &[u8]) -> bool
     u32_at(file, 20) == 0
 }
 
-// The header's answer: refusals 1 to 3 in their order, else the counts.
-pub fn header(file: &[u8]) -> Headed
-    ensures { λ r. ⌜ r ≡ headed (now (file .entry)) ⌝ }
-{
-    if !length_right(file) {
-        return Headed::Length;
-    }
-    if !counts_right(file) {
-        return Headed::Counts;
-    }
-    if !layout_right(file) {
-        return Headed::Layout;
-    }
-    Headed::Sound {
-        vertices: u32_at(file, 0) as usize,
-        tets: u32_at(file, 8) as usize,
-    }
-}
-
 // ---- the parts, each begun at its offset: `&file[24..]` and `&file[24 + 12 * n..]`
 
-// Not refusal 4: the first `count` coordinates of a vertex part are in bounds.
-pub fn all_near(part: &[u8], count: usize) -> bool
-    requires { ⌜ 4 * count ≤ length (now part) ⌝ }
-    ensures { λ r. ⌜ r ≡ all near (coordsIn (now (part .entry)) count) ⌝ }
-{
-    let mut k = 0;
-    while k < count {
-        if !space::is_near(i32_at(part, 4 * k)) {
-            return false;
-        }
-        k += 1;
-    }
-    true
-}
-
 // Fills `coords` with the first coordinates of a vertex part.
-pub fn read_coordinates(part: &[u8], coords: &mut [i64])
+fn read_coordinates(part: &[u8], coords: &mut [i64])
     requires { ⌜ 4 * length (now coords) ≤ length (now part) ⌝ }
     ensures { λ r. ⌜ now (coords .exit) ≡ coordsIn (now (part .entry)) (length (now (coords .entry))) ⌝ }
 {
@@ -150,27 +108,56 @@ pub fn read_coordinates(part: &[u8], coords: &mut [i64])
     }
 }
 
-// Fills `labels` with the vertex numbers of the first tetrahedra of a tetrahedron part, four to each.
-pub fn read_labels(part: &[u8], labels: &mut [u16])
-    requires { ⌜ 10 * (length (now labels) / 4) ≤ length (now part) ⌝ }
-    requires { ⌜ length (now labels) ≡ 4 * (length (now labels) / 4) ⌝ }
-    ensures { λ r. ⌜ now (labels .exit) ≡ labelsIn (now (part .entry)) (length (now (labels .entry))) ⌝ }
-{
-    let mut x = 0;
-    while x < labels.len() {
-        labels[x] = u16_at(part, 10 * (x / 4) + 2 * (x % 4));
-        x += 1;
-    }
-}
-
-// Fills `parts` with the part numbers of the first tetrahedra of a tetrahedron part.
-pub fn read_parts(part: &[u8], parts: &mut [u16])
+// Fills `labels`, four to each, and `parts` from the first tetrahedra of a tetrahedron part.
+fn read_tets(part: &[u8], labels: &mut [u16], parts: &mut [u16])
+    requires { ⌜ length (now labels) ≡ 4 * length (now parts) ⌝ }
     requires { ⌜ 10 * length (now parts) ≤ length (now part) ⌝ }
-    ensures { λ r. ⌜ now (parts .exit) ≡ partsIn (now (part .entry)) (length (now (parts .entry))) ⌝ }
+    ensures numbers { λ r. ⌜ now (labels .exit) ≡ labelsIn (now (part .entry)) (length (now (labels .entry))) ⌝ }
+    ensures partition { λ r. ⌜ now (parts .exit) ≡ partsIn (now (part .entry)) (length (now (parts .entry))) ⌝ }
 {
     let mut j = 0;
     while j < parts.len() {
-        parts[j] = u16_at(part, 10 * j + 8);
+        let from = 10 * j;
+        let at = 4 * j;
+        labels[at] = u16_at(part, from);
+        labels[at + 1] = u16_at(part, from + 2);
+        labels[at + 2] = u16_at(part, from + 4);
+        labels[at + 3] = u16_at(part, from + 6);
+        parts[j] = u16_at(part, from + 8);
         j += 1;
     }
+}
+
+// Reads a file with n vertices and t tetrahedra into the lent arrays.
+pub fn decode(
+    file: &[u8],
+    n: usize,
+    t: usize,
+    coords: &mut [i64],
+    labels: &mut [u16],
+    parts: &mut [u16],
+)
+    requires { ⌜ Framed (now file) n t ⌝ }
+    requires { ⌜ (length (now coords) ≡ 3 * n) × ((length (now labels) ≡ 4 * t) × (length (now parts) ≡ t)) ⌝ }
+    ensures coordinates { λ r. ⌜ now (coords .exit) ≡ coordsOf (now (file .entry)) ⌝ }
+    ensures numbers { λ r. ⌜ now (labels .exit) ≡ labelsOf (now (file .entry)) ⌝ }
+    ensures partition { λ r. ⌜ now (parts .exit) ≡ partsOf (now (file .entry)) ⌝ }
+{
+    read_coordinates(&file[24..], coords);
+    let at = 24 + 12 * n;
+    read_tets(&file[at..], labels, parts);
+}
+
+// Not refusal 4: every coordinate is in bounds.
+pub fn all_near(coords: &[i64]) -> bool
+    ensures { λ r. ⌜ r ≡ all near (now (coords .entry)) ⌝ }
+{
+    let mut k = 0;
+    while k < coords.len() {
+        if !space::is_near(coords[k]) {
+            return false;
+        }
+        k += 1;
+    }
+    true
 }

@@ -8,10 +8,11 @@ use native.Mathlib.Decide.{decLt}
 use borrow.Author.Tests.{ne-eqb}
 use lib.ListN.{length, take, drop}
 use Rattle.base.specs.Lists.{all}
+use Rattle.base.specs.Refusals.{Refusal}
 use Rattle.base.proofs.Lay.{lay-front}
 use Rattle.space.specs.Mesh.{Mesh}
 use Rattle.layout.specs.Layout.{vertices, decoded}
-use Rattle.mesh.specs.Check.{refusal}
+use Rattle.arrays.specs.Refusals.{refusals}
 use Rattle.cells.specs.Full.{fullList}
 use Rattle.once.proofs.Once.{once}
 use Rattle.portions.specs.Portions.{portion, given, refused, after, records}
@@ -25,16 +26,17 @@ use Rattle.rule.proofs.Full.{after-above, lawful, telling}
 use Rattle.record.specs.declared.Mark.{Mark}
 use Rattle.record.specs.Marks.{markOf, letters}
 use Rattle.records.specs.declared.Answer.{Answer}
-use Rattle.records.specs.declared.Answer.the-variants.{Refused, Long, Given}
+use Rattle.records.specs.declared.Answer.the-variants.{Refused, Given}
 use Rattle.records.specs.Marks.{says, answerNumber}
 use Rattle.listing.specs.Portion.{barred, portionBy, Promised}
 use Rattle.listing.specs.Demands.{Demand2, Demand3, Called, none, last, more}
 use Rattle.listing.proofs.Promised.{bars-none}
+use Rattle.listing.proofs.File.{accepted-passed}
 
 -- ---- a call that is not refused early
 
-module _ {x : ℕ} {m : Mesh} {n : ℕ} {k table room table′ left : List ℕ} {a : Answer} (p : Promised x m n k table room a table′ left) where
-  pub passed : barred x m n (length table) (length room) ≡ 0 → Outcome tetRule (fullList m) k room (says a) left
+module _ {rs : List Refusal} {m : Mesh} {n : ℕ} {k table room table′ left : List ℕ} {a : Answer} (p : Promised rs m n k table room a table′ left) where
+  pub passed : barred rs m n (length table) (length room) ≡ 0 → Outcome tetRule (fullList m) k room (says a) left
   unfolding portionBy
   passed e =
       let w = portion tetRule (fullList m) k (length room) .written in
@@ -46,11 +48,11 @@ module _ {x : ℕ} {m : Mesh} {n : ℕ} {k table room table′ left : List ℕ} 
         stored = rw (s ∙ sym (lay-front w room)) o;
       }
 
-pub given-outcome : {x : ℕ} {m : Mesh} {n : ℕ} {k table room table′ left : List ℕ} {c : ℕ} {b : Bool} {k′ : Mark} → Promised x m n k table room (Given c b k′) table′ left → Outcome tetRule (fullList m) k room (given c b (markOf k′)) left
+pub given-outcome : {rs : List Refusal} {m : Mesh} {n : ℕ} {k table room table′ left : List ℕ} {c : ℕ} {b : Bool} {k′ : Mark} → Promised rs m n k table room (Given c b k′) table′ left → Outcome tetRule (fullList m) k room (given c b (markOf k′)) left
 unfolding portionBy
-given-outcome {x} {m} {n} {k} {table} {room} {table′} {left} {c} {b} {k′} p = elim (decLt 0 (barred x m n (length table) (length room))) [
+given-outcome {rs} {m} {n} {k} {table} {room} {table′} {left} {c} {b} {k′} p = elim (decLt 0 (barred rs m n (length table) (length room))) [
   | yes h ↦
-      let d : given c b (markOf k′) ≡ refused (barred x m n (length table) (length room)) = p .answered ∙ rw (ne-eqb (barred x m n (length table) (length room)) 0 (λ e. omega arith)) in
+      let d : given c b (markOf k′) ≡ refused (barred rs m n (length table) (length room)) = p .answered ∙ rw (ne-eqb (barred rs m n (length table) (length room)) 0 (λ e. omega arith)) in
       absurd (true≢false (let v : true ≡ false = cc in v))
   | no h ↦ passed p (omega arith)
 ]
@@ -71,8 +73,7 @@ module _ (f : List ℕ) where
   all-after s e = after-above (decoded f) (s .kind) (letters s) (omega arith)
 
   answered : (a : Answer) {k room left : List ℕ} → Outcome tetRule (fullList (decoded f)) k room (says a) left → tetRule .size ≤ length room → all (tetRule .fits) (take (length room / tetRule .size) (after tetRule (fullList (decoded f)) k)) ≡ true → answerNumber a ≡ 0
-  answered (Refused j) o h g = absurd (refusal-fails tetRule (fullList (decoded f)) (lawful (decoded f)) o h g)
-  answered (Long i) o h g = absurd (refusal-fails tetRule (fullList (decoded f)) (lawful (decoded f)) o h g)
+  answered (Refused j v) o h g = absurd (refusal-fails tetRule (fullList (decoded f)) (lawful (decoded f)) o h g)
   answered (Given c b k′) o h g = refl
 
   pub demand3 : Demand3 f
@@ -88,9 +89,9 @@ module _ (f : List ℕ) where
           ),
         );
     promise = λ r. calls tetRule (fullList (decoded f)) (lawful (decoded f)) (called-calls r);
-    answers = λ {k} {table} {room} {table′} {left} {a} z t w p g. answered a (passed p (bars-none (refusal f) (decoded f) (vertices f) (length table) (length room) z t w)) w g;
+    answers = λ {k} {table} {room} {table′} {left} {a} z t w p g. answered a (passed p (bars-none (refusals f) (decoded f) (vertices f) (accepted-passed f z) (length table) (length room) t w)) w g;
     ended = λ {table} {room} {table′} {left} {a} z t w p.
-        let o = passed p (bars-none (refusal f) (decoded f) (vertices f) (length table) (length room) z t w) in
+        let o = passed p (bars-none (refusals f) (decoded f) (vertices f) (accepted-passed f z) (length table) (length room) t w) in
         let e = ends tetRule (fullList (decoded f)) (lawful (decoded f)) (length room) w in
         (o .answered ∙ ap (λ q. q .answer) e, o .stored .content ∙ lay-front (portion tetRule (fullList (decoded f)) (tetRule .end) (length room) .written) room ∙ ap (λ q. q .written ++ drop (length (q .written)) room) e);
   }

@@ -7,7 +7,7 @@ use mathlib.Core.List.{List, [], _∷_, _++_}
 use lib.ListN.{length, take}
 use Rattle.base.specs.Lists.{all}
 use Rattle.layout.specs.Layout.{vertices, decoded}
-use Rattle.mesh.specs.Check.{refusal}
+use Rattle.arrays.specs.Refusals.{refusal}
 use Rattle.cells.specs.Full.{fullList}
 use Rattle.once.specs.Once.{Once}
 use Rattle.neighbours.specs.Table.{tableOf}

@@ -1,3 +1,2 @@
 pub mod Portion
-pub mod Arrays
 pub mod Demands

@@ -2,29 +2,31 @@
 -- Assumes nothing.
 use Prim.Native.Nat.{ℕ, _*_}
 use mathlib.Core.Path.{_≡_}
-use mathlib.Core.Bool.{true, cond}
-use mathlib.Core.List.{List, [], _++_}
+use mathlib.Core.Bool.{cond}
+use mathlib.Core.List.{List, [], _∷_, _++_}
 use lib.Dec.{eqb, ltb}
 use lib.ListN.{length, drop}
+use Rattle.base.specs.Refusals.{Refusal, refuse, firstOf}
 use Rattle.space.specs.Mesh.{Mesh}
 use Rattle.layout.specs.Layout.{vertices, decoded}
-use Rattle.mesh.specs.Check.{refusal}
+use Rattle.arrays.specs.Refusals.{refusals}
 use Rattle.cells.specs.Full.{fullList}
 use Rattle.neighbours.specs.Table.{tableOf}
 use Rattle.portions.specs.Portions.{Portion, reply, refused, portion}
 use Rattle.rule.specs.Rule.{tetRule}
 use Rattle.records.specs.declared.Answer.{Answer}
-use Rattle.records.specs.Marks.{says, isPlain, wrote}
+use Rattle.records.specs.Marks.{says, wrote}
 
--- of a file with refusal x, 0 where it is accepted, and with the mesh m of n vertices
-module _ (x : ℕ) (m : Mesh) (n : ℕ) where
-  -- the first of refusals 1 to 11 that applies where the table and the room have this many entries, and 0 where none does
+-- of a file with the refusals rs, and with the mesh m of n vertices
+module _ (rs : List Refusal) (m : Mesh) (n : ℕ) where
+  -- the first of those that applies, and of 10 and 11 after them, where the table and the room have this many entries
   unfoldable pub barred : ℕ → ℕ → ℕ
   barred table room =
-      cond (eqb x 0)
-      (cond (ltb table (length (tableOf m n))) 10
-      (cond (ltb room (tetRule .size)) 11 0))
-      x
+      firstOf
+      (rs
+      ++ (refuse 10 (ltb table (length (tableOf m n)))
+      ∷ refuse 11 (ltb room (tetRule .size))
+      ∷ []))
 
   -- from the mark k on: that refusal, with nothing written, or the portion of the full list
   unfoldable pub portionBy : List ℕ → ℕ → ℕ → Portion
@@ -47,7 +49,6 @@ module _ (x : ℕ) (m : Mesh) (n : ℕ) where
   pub record Promised (k table room : List ℕ) (a : Answer) (table′ room′ : List ℕ) : Type 0 where
     -- the answer by its number and values
     pub answered : says a ≡ portionBy k (length table) (length room) .answer
-    pub plain : isPlain a ≡ true
     -- how many records it tells of, refusal 12 too
     pub counted : tetRule .size * wrote a ≡ length (portionBy k (length table) (length room) .written)
     pub tabled : table′ ≡ tableLeft table (length room)
@@ -55,4 +56,4 @@ module _ (x : ℕ) (m : Mesh) (n : ℕ) where
 
 -- of the file with these bytes
 abbrev pub Portioned : (f k table room : List ℕ) → Answer → (table′ room′ : List ℕ) → Type 0
-Portioned f = Promised (refusal f) (decoded f) (vertices f)
+Portioned f = Promised (refusals f) (decoded f) (vertices f)

@@ -1,5 +1,5 @@
 // The listing of a mesh file's cells: one portion at a time, from any mark on.
-use mesh::Checked;
+use arrays::Checked;
 use neighbours::Filled;
 use record::Mark;
 use record::SIZE;
@@ -7,19 +7,18 @@ use records::Answer;
 ghost use mathlib.Core.Path.{_≡_};
 ghost use mathlib.Core.List.{[]};
 ghost use lib.Dec.{leb};
-ghost use Prim.Native.Nat.{_+_, _*_, _<_, _≤_};
+ghost use Prim.Native.Nat.{_*_, _<_, _≤_};
 ghost use lib.ListN.{length};
 ghost use Rattle.space.specs.Arrays.{meshOf};
-ghost use Rattle.layout.specs.Layout.{Framed, vertexPart, tetPart, coordsIn, labelsIn, partsIn};
-ghost use Rattle.mesh.specs.Check.{checked};
-ghost use Rattle.mesh.specs.declared.Checked.the-variants.{Accepted};
-ghost use Rattle.marks.specs.Marks.{places};
+ghost use Rattle.around.specs.Arrays.{Arrays};
+ghost use Rattle.layout.specs.Layout.{Framed};
+ghost use Rattle.arrays.specs.Refusals.{headed};
+ghost use Rattle.arrays.specs.declared.Checked.the-variants.{Accepted};
 ghost use Rattle.neighbours.specs.Reading.{Tabled};
 ghost use Rattle.record.specs.Entries.{recordSize};
 ghost use Rattle.record.specs.Marks.{markOf};
 ghost use Rattle.records.specs.Marks.{Written};
 ghost use Rattle.listing.specs.Portion.{Promised, Portioned};
-ghost use Rattle.listing.specs.Arrays.{Held};
 
 // The room holds a record at least.
 fn is_roomy(records: &[u16]) -> bool
@@ -28,26 +27,24 @@ fn is_roomy(records: &[u16]) -> bool
     SIZE <= records.len()
 }
 
-// Indexes a mesh whose table is filled, marks its facets, and writes the records of its cells.
+// Marks the facets of a mesh whose table is filled, and writes the records of its cells.
 fn write_listed(
     coords: &[i64],
     labels: &[u16],
     parts: &[u16],
     n: usize,
-    offsets: &mut [u16],
-    entries: &mut [u16],
-    marks: &mut [u8],
+    offsets: &[u16],
+    entries: &[u16],
     table: &[u16],
     mark: Mark,
     records: &mut [u16],
 ) -> Answer
-    requires { ⌜ Held (now coords) (now labels) (now parts) n ⌝ }
-    requires { ⌜ (n < length (now offsets)) × ((length (now labels) ≤ length (now entries)) × (length (now marks) ≡ places)) ⌝ }
+    requires { ⌜ Arrays (now coords) (now labels) (now parts) n (now offsets) (now entries) ⌝ }
     requires { ⌜ Tabled (meshOf [] (now labels) []) n (now table) ⌝ }
     ensures { λ r. ⌜ Written (meshOf (now (coords .entry)) (now (labels .entry)) (now (parts .entry))) (markOf mark) (now (records .entry)) r (now (records .exit)) ⌝ }
 {
-    around::index(labels, n, offsets, entries);
-    marks::note_facets(labels, marks);
+    let mut marks: [u8; 131072] = [0; 131072];
+    marks::note_facets(labels, &mut marks);
     let all = levels::tables();
     records::write_cells(
         &all,
@@ -57,7 +54,7 @@ fn write_listed(
         n,
         offsets,
         entries,
-        marks,
+        &marks,
         table,
         mark,
         records,
@@ -70,21 +67,22 @@ fn portion_of(
     labels: &[u16],
     parts: &[u16],
     n: usize,
-    offsets: &mut [u16],
-    entries: &mut [u16],
-    marks: &mut [u8],
+    offsets: &[u16],
+    entries: &[u16],
     mark: Mark,
     table: &mut [u16],
     records: &mut [u16],
 ) -> Answer
-    requires { ⌜ Held (now coords) (now labels) (now parts) n ⌝ }
-    requires { ⌜ (n < length (now offsets)) × ((length (now labels) ≤ length (now entries)) × (length (now marks) ≡ places)) ⌝ }
-    ensures { λ r. ⌜ Promised 0 (meshOf (now (coords .entry)) (now (labels .entry)) (now (parts .entry))) n (markOf mark) (now (table .entry)) (now (records .entry)) r (now (table .exit)) (now (records .exit)) ⌝ }
+    requires { ⌜ Arrays (now coords) (now labels) (now parts) n (now offsets) (now entries) ⌝ }
+    ensures { λ r. ⌜ Promised [] (meshOf (now (coords .entry)) (now (labels .entry)) (now (parts .entry))) n (markOf mark) (now (table .entry)) (now (records .entry)) r (now (table .exit)) (now (records .exit)) ⌝ }
 {
     let roomy = is_roomy(records);
     let filled = neighbours::fill_if(labels, n, roomy, table);
     match filled {
-        Filled::Short => Answer::Refused(10),
+        Filled::Short => Answer::Refused {
+            number: 10,
+            written: 0,
+        },
         Filled::Entries(_) => {
             if roomy {
                 write_listed(
@@ -94,40 +92,21 @@ fn portion_of(
                     n,
                     offsets,
                     entries,
-                    marks,
                     table,
                     mark,
                     records,
                 )
             } else {
-                Answer::Refused(11)
+                Answer::Refused {
+                    number: 11,
+                    written: 0,
+                }
             }
         }
     }
 }
 
-// Reads a file with n vertices and t tetrahedra into the lent arrays.
-fn decode(
-    file: &[u8],
-    n: usize,
-    t: usize,
-    coords: &mut [i64],
-    labels: &mut [u16],
-    parts: &mut [u16],
-)
-    requires { ⌜ Framed (now file) n t ⌝ }
-    requires { ⌜ (length (now coords) ≡ 3 * n) × ((length (now labels) ≡ 4 * t) × (length (now parts) ≡ t)) ⌝ }
-    ensures coordinates { λ r. ⌜ now (coords .exit) ≡ coordsIn (vertexPart (now (file .entry))) (3 * n) ⌝ }
-    ensures numbers { λ r. ⌜ now (labels .exit) ≡ labelsIn (tetPart n (now (file .entry))) (4 * t) ⌝ }
-    ensures partition { λ r. ⌜ now (parts .exit) ≡ partsIn (tetPart n (now (file .entry))) t ⌝ }
-{
-    layout::read_coordinates(&file[24..], coords);
-    let at = 24 + 12 * n;
-    layout::read_labels(&file[at..], labels);
-    layout::read_parts(&file[at..], parts);
-}
-
-// The portion of an accepted file, read into the lent arrays.
+// The portion of a file with a sound header, read into the lent arrays.
 fn portion_in(
     file: &[u8],
     n: usize,
@@ -137,17 +116,19 @@ fn portion_in(
     parts: &mut [u16],
     offsets: &mut [u16],
     entries: &mut [u16],
-    marks: &mut [u8],
     mark: Mark,
     table: &mut [u16],
     records: &mut [u16],
 ) -> Answer
-    requires { ⌜ Framed (now file) n t × (checked (now file) ≡ Accepted n t) ⌝ }
+    requires { ⌜ Framed (now file) n t × (headed (now file) ≡ Accepted n t) ⌝ }
     requires { ⌜ (length (now coords) ≡ 3 * n) × ((length (now labels) ≡ 4 * t) × (length (now parts) ≡ t)) ⌝ }
-    requires { ⌜ (n < length (now offsets)) × ((4 * t ≤ length (now entries)) × (length (now marks) ≡ places)) ⌝ }
+    requires { ⌜ (n < length (now offsets)) × (4 * t ≤ length (now entries)) ⌝ }
     ensures { λ r. ⌜ Portioned (now (file .entry)) (markOf mark) (now (table .entry)) (now (records .entry)) r (now (table .exit)) (now (records .exit)) ⌝ }
 {
-    decode(file, n, t, coords, labels, parts);
+    let number = arrays::load(file, n, t, coords, labels, parts, offsets, entries);
+    if number != 0 {
+        return Answer::Refused { number, written: 0 };
+    }
     portion_of(
         coords,
         labels,
@@ -155,15 +136,14 @@ fn portion_in(
         n,
         offsets,
         entries,
-        marks,
         mark,
         table,
         records,
     )
 }
 
-// The portion of an accepted file.
-fn portion_accepted(
+// The portion of a file with a sound header.
+fn portion_framed(
     file: &[u8],
     n: usize,
     t: usize,
@@ -171,7 +151,7 @@ fn portion_accepted(
     table: &mut [u16],
     records: &mut [u16],
 ) -> Answer
-    requires { ⌜ Framed (now file) n t × (checked (now file) ≡ Accepted n t) ⌝ }
+    requires { ⌜ Framed (now file) n t × (headed (now file) ≡ Accepted n t) ⌝ }
     ensures { λ r. ⌜ Portioned (now (file .entry)) (markOf mark) (now (table .entry)) (now (records .entry)) r (now (table .exit)) (now (records .exit)) ⌝ }
 {
     let mut coords: [i64; 1536] = [0; 1536];
@@ -179,7 +159,6 @@ fn portion_accepted(
     let mut parts: [u16; 2048] = [0; 2048];
     let mut offsets: [u16; 513] = [0; 513];
     let mut entries: [u16; 8192] = [0; 8192];
-    let mut marks: [u8; 131072] = [0; 131072];
     portion_in(
         file,
         n,
@@ -189,7 +168,6 @@ fn portion_accepted(
         &mut parts[..t],
         &mut offsets[..n + 1],
         &mut entries[..4 * t],
-        &mut marks[..131072],
         mark,
         table,
         records,
@@ -201,19 +179,11 @@ fn portion_accepted(
 pub fn portion(file: &[u8], mark: Mark, table: &mut [u16], records: &mut [u16]) -> Answer
     ensures { λ r. ⌜ Portioned (now (file .entry)) (markOf mark) (now (table .entry)) (now (records .entry)) r (now (table .exit)) (now (records .exit)) ⌝ }
 {
-    let found = mesh::check(file);
-    match found {
+    let head = arrays::header(file);
+    match head {
         Checked::Accepted { vertices, tets } => {
-            portion_accepted(file, vertices, tets, mark, table, records)
+            portion_framed(file, vertices, tets, mark, table, records)
         }
-        Checked::Length => Answer::Refused(1),
-        Checked::Counts => Answer::Refused(2),
-        Checked::Layout => Answer::Refused(3),
-        Checked::Coordinate => Answer::Refused(4),
-        Checked::Label => Answer::Refused(5),
-        Checked::Twice => Answer::Refused(6),
-        Checked::Flat => Answer::Refused(7),
-        Checked::Crowded => Answer::Refused(8),
-        Checked::Folded => Answer::Refused(9),
+        Checked::Refused(number) => Answer::Refused { number, written: 0 },
     }
 }

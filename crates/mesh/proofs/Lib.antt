@@ -1,6 +1,3 @@
-pub mod Parts
 pub mod Held
-pub mod Accepted
 pub mod Opened
-pub mod Number
 pub mod Worked

@@ -6,43 +6,30 @@ use Prim.Native.Nat.{ℕ, _+_, _*_}
 use native.Mathlib.Omega.{arith}
 use lib.Dec.{ltb}
 use lib.ListN.{length}
-use borrow.Author.Tests.{le-leb, eq-eqb, le-ltb}
+use borrow.Author.Tests.{le-leb, eq-eqb, ne-eqb, le-ltb}
 use denote.Ref.{RefT, now}
 use Rattle.space.specs.Mesh.{point}
 use Rattle.space.specs.declared.Vertex.{Vertex}
 use Rattle.space.specs.declared.Tet.{Tet}
 use Rattle.layout.specs.Layout.{Framed, decoded}
-use Rattle.mesh.specs.Check.{checked, number, refusal}
+use Rattle.arrays.specs.Refusals.{refusal, answered, checked}
+use Rattle.arrays.specs.declared.Checked.the-variants.{Accepted}
+use Rattle.arrays.proofs.Answers.{accepted-says}
+use Rattle.arrays.proofs.Accepted.{accepted-gives}
 use Rattle.mesh.specs.View.{sizesOf, sizesIn, fits, tet, vertexAt, placeIn, tetraIn, partIn}
-use Rattle.mesh.specs.declared.Checked.{Checked}
-use Rattle.mesh.specs.declared.Checked.the-variants.{Accepted, Length, Counts, Layout, Coordinate, Label, Twice, Flat, Crowded, Folded}
 use Rattle.mesh.specs.declared.Place.the-variants.{At, Nowhere}
 use Rattle.mesh.specs.declared.Tetra.the-variants.{Joins, NoTet}
 use Rattle.mesh.specs.declared.Part.the-variants.{Number, NoPart}
 use Rattle.mesh.specs.declared.View.{View}
-use Rattle.mesh.proofs.Accepted.{accepted-gives}
 
 -- the counts of the view
 pub sizes-accepted : (f : List ℕ) (n t : ℕ) → checked f ≡ Accepted n t → sizesIn f ≡ record { n = n; t = t }
 unfolding sizesIn
 sizes-accepted f n t e = ap sizesOf e
 
-none : (c : Checked) → (number c ≡ 0 → ⊥) → sizesOf c ≡ record { n = 0; t = 0 }
-unfolding number
-none (Accepted n t) h = absurd (h refl)
-none Length h = refl
-none Counts h = refl
-none Layout h = refl
-none Coordinate h = refl
-none Label h = refl
-none Twice h = refl
-none Flat h = refl
-none Crowded h = refl
-none Folded h = refl
-
 pub sizes-refused : (f : List ℕ) → (refusal f ≡ 0 → ⊥) → sizesIn f ≡ record { n = 0; t = 0 }
-unfolding sizesIn refusal
-sizes-refused f h = none (checked f) h
+unfolding sizesIn answered
+sizes-refused f h = rw (ne-eqb (refusal f) 0 h)
 
 fits-framed : {f : List ℕ} {n t : ℕ} → Framed f n t → fits f n t ≡ true
 unfolding fits
@@ -50,20 +37,23 @@ fits-framed {f} {n} {t} h = rw (le-leb n 512 (h .fewVertices), le-leb t 2048 (h 
 
 -- its answers, for an accepted file
 module _ (f : List ℕ) (n t : ℕ) (e : checked f ≡ Accepted n t) where
+  whole : Framed f n t
+  whole = let s = accepted-says f e in rw (s .1 .0, s .1 .1) (accepted-gives f (s .0) .framed)
+
   pub fits-accepted : fits f n t ≡ true
-  fits-accepted = fits-framed (accepted-gives f n t e .framed)
+  fits-accepted = fits-framed (whole)
 
   pub place-accepted : (v : Vertex) → placeIn f n t v ≡ cond (ltb (v .0) n) (At (point (decoded f) (v .0))) Nowhere
   unfolding placeIn
-  place-accepted v = rw (fits-accepted, accepted-gives f n t e .framed .vertex)
+  place-accepted v = rw (fits-accepted, whole .vertex)
 
   pub tetra-accepted : (j : Tet) → tetraIn f n t j ≡ cond (ltb (j .0) t) (Joins (vertexAt (tet (decoded f) (j .0)) 0) (vertexAt (tet (decoded f) (j .0)) 1) (vertexAt (tet (decoded f) (j .0)) 2) (vertexAt (tet (decoded f) (j .0)) 3)) NoTet
   unfolding tetraIn
-  tetra-accepted j = let h = accepted-gives f n t e .framed in rw (fits-accepted, h .vertex, h .tet)
+  tetra-accepted j = let h = whole in rw (fits-accepted, h .vertex, h .tet)
 
   pub part-accepted : (j : Tet) → partIn f n t j ≡ cond (ltb (j .0) t) (Number (tet (decoded f) (j .0) .part)) NoPart
   unfolding partIn
-  part-accepted j = let h = accepted-gives f n t e .framed in rw (fits-accepted, h .vertex, h .tet)
+  part-accepted j = let h = whole in rw (fits-accepted, h .vertex, h .tet)
 
 -- a view with no vertices and no tetrahedra has none to show
 nowhere : {A : Type 0} (b : Bool) (x : ℕ) (y z : A) → cond (b && ltb x 0) y z ≡ z

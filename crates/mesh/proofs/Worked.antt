@@ -3,16 +3,18 @@ use Prim.Native.Nat.{ℕ}
 use mathlib.Core.Path.{refl}
 use Rattle.space.specs.Box.{box}
 use Rattle.layout.specs.Bytes.{signed32, i32At}
-use Rattle.layout.specs.Layout.{lengthRight, countsRight, layoutRight, coordsIn, labelsIn, partsIn, coordinatesRight}
-use Rattle.facets.specs.Facets.{boxAt, opposite, outside, twice, flat, full, crowded, astray, clashes, clashing, folded, refused5, refused6, refused7, refused8, refused9, faultOf}
-use Rattle.mesh.specs.Check.{answered, checked, number, refusal}
+use Rattle.layout.specs.Layout.{lengthRight, countsRight, layoutRight, coordsIn, labelsIn, partsIn}
+use Rattle.base.specs.Refusals.{firstOf}
+use Rattle.tets.specs.Tets.{boxAt, outside, twice, flat}
+use Rattle.facets.specs.Facets.{opposite, full, crowded, astray, clashes, clashing, folded}
+use Rattle.arrays.specs.Refusals.{refusal, answered}
 use Rattle.mesh.specs.Rows.{Worked}
 
 -- what an answer is computed by
 unfoldable opened : ℕ
-unfolding box signed32 i32At lengthRight countsRight layoutRight coordsIn labelsIn partsIn coordinatesRight boxAt opposite outside twice flat full crowded astray clashes clashing folded refused5 refused6 refused7 refused8 refused9 faultOf answered checked number refusal
+unfolding box signed32 i32At lengthRight countsRight layoutRight coordsIn labelsIn partsIn boxAt opposite outside twice flat full crowded astray clashes clashing folded firstOf refusal answered
 opened = 0
 
 pub worked : Worked
 unfolding opened
-worked = record { answers = refl; numbers = refl; turned = refl; sound = refl }
+worked = record { answers = refl; turned = refl; sound = refl }

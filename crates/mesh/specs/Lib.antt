@@ -1,4 +1,3 @@
-pub mod Check
 pub mod View
 pub mod Reads
 pub mod Rows

@@ -1,4 +1,4 @@
--- Worked files, from their bytes: each row is a file, the number of its refusal (0 where it is accepted), and its answer.
+-- Worked files, from their bytes: each row is a file and its answer.
 -- Assumes nothing.
 use Prim.Native.Nat.{ℕ, _+_, _*_, _/_, _%_, _-_}
 use mathlib.Core.Path.{_≡_}
@@ -8,9 +8,9 @@ use lib.ListN.{length, replicate}
 use Rattle.space.specs.Box.{box}
 use Rattle.space.specs.Mesh.{point}
 use Rattle.layout.specs.Layout.{decoded}
-use Rattle.mesh.specs.Check.{checked, refusal}
-use Rattle.mesh.specs.declared.Checked.{Checked}
-use Rattle.mesh.specs.declared.Checked.the-variants.{Accepted, Length, Counts, Layout, Coordinate, Label, Twice, Flat, Crowded, Folded}
+use Rattle.arrays.specs.Refusals.{checked}
+use Rattle.arrays.specs.declared.Checked.{Checked}
+use Rattle.arrays.specs.declared.Checked.the-variants.{Accepted, Refused}
 
 -- ---- files from what they say
 
@@ -73,71 +73,74 @@ lone x y z = file (vertex x y z ∷ []) []
 
 pub record Row : Type 0 where
   pub bytes : List ℕ
-  pub no : ℕ
   pub answer : Checked
 
-abbrev row : List ℕ → ℕ → Checked → Row
-row f k a = record { bytes = f; no = k; answer = a }
+-- a file that is accepted with these counts, and one that is refused with this number
+abbrev accept : List ℕ → ℕ → ℕ → Row
+accept f n t = record { bytes = f; answer = Accepted n t }
+
+abbrev refuse : List ℕ → ℕ → Row
+refuse f k = record { bytes = f; answer = Refused k }
 
 abbrev pub accepted : List Row
 accepted =
-    row (pyramid (joins 0 1 2 4 ∷ joins 0 2 3 4 ∷ [])) 0 (Accepted 5 2)
-    ∷ row (cube (joins 0 5 2 7)) 0 (Accepted 8 5)
+    accept (pyramid (joins 0 1 2 4 ∷ joins 0 2 3 4 ∷ [])) 5 2
+    ∷ accept (cube (joins 0 5 2 7)) 8 5
     -- no vertices and no tetrahedra; vertices alone
-    ∷ row (file [] []) 0 (Accepted 0 0)
-    ∷ row (lone 1 2 3) 0 (Accepted 1 0)
+    ∷ accept (file [] []) 0 0
+    ∷ accept (lone 1 2 3) 1 0
     -- the ends of the bounds
-    ∷ row (lone 50000 0 0) 0 (Accepted 1 0)
-    ∷ row (lone 0 0 (minus 50000)) 0 (Accepted 1 0)
+    ∷ accept (lone 50000 0 0) 1 0
+    ∷ accept (lone 0 0 (minus 50000)) 1 0
     -- two tetrahedra on both sides of a facet
-    ∷ row (fan (joins 0 1 2 3 ∷ joins 2 1 0 5 ∷ [])) 0 (Accepted 6 2)
+    ∷ accept (fan (joins 0 1 2 3 ∷ joins 2 1 0 5 ∷ [])) 6 2
     ∷ []
 
 -- one fault each
 abbrev pub single : List Row
 single =
     -- too short, too long, another length than the header's
-    row [] 1 Length
-    ∷ row (replicate 23 0) 1 Length
-    ∷ row (header 0 24 0 24 26649 0 ++ replicate 26625 0) 1 Length
-    ∷ row (lone 1 2 3 ++ 0 ∷ []) 1 Length
+    refuse [] 1
+    ∷ refuse (replicate 23 0) 1
+    ∷ refuse (header 0 24 0 24 26649 0 ++ replicate 26625 0) 1
+    ∷ refuse (lone 1 2 3 ++ 0 ∷ []) 1
     -- 513 vertices in a file of the greatest length, 2,049 tetrahedra
-    ∷ row (header 513 24 0 6180 26648 0 ++ replicate 26624 0) 2 Counts
-    ∷ row (header 0 24 2049 24 24 0) 2 Counts
+    ∷ refuse (header 513 24 0 6180 26648 0 ++ replicate 26624 0) 2
+    ∷ refuse (header 0 24 2049 24 24 0) 2
     -- 512 vertices and 2,048 tetrahedra, without their bytes; an offset, the other, the total, the zero
-    ∷ row (header 512 24 2048 6168 24 0) 3 Layout
-    ∷ row (header 0 28 0 24 24 0) 3 Layout
-    ∷ row (header 0 24 0 36 24 0) 3 Layout
-    ∷ row (header 0 24 0 24 34 0 ++ joins 0 0 0 0) 3 Layout
-    ∷ row (header 0 24 0 24 24 1) 3 Layout
+    ∷ refuse (header 512 24 2048 6168 24 0) 3
+    ∷ refuse (header 0 28 0 24 24 0) 3
+    ∷ refuse (header 0 24 0 36 24 0) 3
+    ∷ refuse (header 0 24 0 24 34 0 ++ joins 0 0 0 0) 3
+    ∷ refuse (header 0 24 0 24 24 1) 3
     -- past the ends of the bounds
-    ∷ row (lone 50001 0 0) 4 Coordinate
-    ∷ row (lone 0 0 (minus 50001)) 4 Coordinate
+    ∷ refuse (lone 50001 0 0) 4
+    ∷ refuse (lone 0 0 (minus 50001)) 4
     -- vertex number n
-    ∷ row (cube (joins 0 5 2 8)) 5 Label
+    ∷ refuse (cube (joins 0 5 2 8)) 5
     -- a vertex twice
-    ∷ row (cube (joins 0 5 2 5)) 6 Twice
+    ∷ refuse (cube (joins 0 5 2 5)) 6
     -- a box of -2, a box of 0
-    ∷ row (cube (joins 0 2 5 7)) 7 Flat
-    ∷ row (pyramid (joins 0 1 2 3 ∷ [])) 7 Flat
+    ∷ refuse (cube (joins 0 2 5 7)) 7
+    ∷ refuse (pyramid (joins 0 1 2 3 ∷ [])) 7
     -- three on a facet
-    ∷ row (fan (joins 0 1 2 3 ∷ joins 2 1 0 5 ∷ joins 1 2 0 4 ∷ [])) 8 Crowded
+    ∷ refuse (fan (joins 0 1 2 3 ∷ joins 2 1 0 5 ∷ joins 1 2 0 4 ∷ [])) 8
     -- two on one side of a facet; one tetrahedron in two parts
-    ∷ row (fan (joins 0 1 2 3 ∷ joins 1 2 0 4 ∷ [])) 9 Folded
-    ∷ row (fan (joins 0 1 2 3 ∷ joins 0 1 2 3 ∷ [])) 9 Folded
+    ∷ refuse (fan (joins 0 1 2 3 ∷ joins 1 2 0 4 ∷ [])) 9
+    ∷ refuse (fan (joins 0 1 2 3 ∷ joins 0 1 2 3 ∷ [])) 9
     ∷ []
 
 -- two faults each, of which the lower number is told
 abbrev pub double : List Row
 double =
-    row (header 513 24 0 24 25 0) 1 Length
-    ∷ row (header 513 28 0 24 24 0) 2 Counts
-    ∷ row (header 1 24 0 36 36 7 ++ vertex 50001 0 0) 3 Layout
-    ∷ row (file (vertex 50001 0 0 ∷ []) (joins 0 1 2 3 ∷ [])) 4 Coordinate
-    ∷ row (pyramid (joins 0 1 1 4 ∷ joins 0 2 3 5 ∷ [])) 5 Label
-    ∷ row (pyramid (joins 0 2 1 4 ∷ joins 0 2 3 0 ∷ [])) 6 Twice
-    ∷ row (fan (joins 0 1 2 3 ∷ joins 0 1 2 3 ∷ joins 0 2 1 3 ∷ [])) 7 Flat
-    ∷ row (fan (joins 0 1 2 3 ∷ joins 0 1 2 4 ∷ joins 1 2 0 4 ∷ [])) 8 Crowded
+    refuse (header 513 24 0 24 25 0) 1
+    ∷ refuse (header 513 28 0 24 24 0) 2
+    ∷ refuse (header 1 24 0 36 36 7 ++ vertex 50001 0 0) 3
+    ∷ refuse (file (vertex 50001 0 0 ∷ []) (joins 0 1 2 3 ∷ [])) 4
+    ∷ refuse (pyramid (joins 0 1 1 4 ∷ joins 0 2 3 5 ∷ [])) 5
+    ∷ refuse (pyramid (joins 0 2 1 4 ∷ joins 0 2 3 0 ∷ [])) 6
+    ∷ refuse (fan (joins 0 1 2 3 ∷ joins 0 1 2 3 ∷ joins 0 2 1 3 ∷ [])) 7
+    ∷ refuse (fan (joins 0 1 2 3 ∷ joins 0 1 2 4 ∷ joins 1 2 0 4 ∷ [])) 8
     ∷ []
 
 abbrev pub rows : List Row
@@ -152,6 +155,5 @@ boxOf f a b c d =
 -- what the rows claim; and the box of the cube's last tetrahedron, its vertices in two orders
 pub record Worked : Type 0 where
   pub answers : map (λ r. checked (r .bytes)) rows ≡ map (λ r. r .answer) rows
-  pub numbers : map (λ r. refusal (r .bytes)) rows ≡ map (λ r. r .no) rows
   pub turned : boxOf (cube (joins 0 2 5 7)) 0 2 5 7 ≡ negsuc 1
   pub sound : boxOf (cube (joins 0 5 2 7)) 0 5 2 7 ≡ pos 2

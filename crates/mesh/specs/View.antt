@@ -10,9 +10,9 @@ use Rattle.space.specs.Mesh.{Mesh, Tetrahedron, point}
 use Rattle.space.specs.declared.Vertex.{Vertex}
 use Rattle.space.specs.declared.Tet.{Tet}
 use Rattle.layout.specs.Layout.{meshIn}
-use Rattle.mesh.specs.Check.{checked}
-use Rattle.mesh.specs.declared.Checked.{Checked}
-use Rattle.mesh.specs.declared.Checked.the-variants.{Accepted, Length, Counts, Layout, Coordinate, Label, Twice, Flat, Crowded, Folded}
+use Rattle.arrays.specs.Refusals.{checked}
+use Rattle.arrays.specs.declared.Checked.{Checked}
+use Rattle.arrays.specs.declared.Checked.the-variants.{Accepted, Refused}
 use Rattle.mesh.specs.declared.Sizes.{Sizes}
 use Rattle.mesh.specs.declared.Place.{Place}
 use Rattle.mesh.specs.declared.Place.the-variants.{At, Nowhere}
@@ -24,15 +24,7 @@ use Rattle.mesh.specs.declared.Part.the-variants.{Number, NoPart}
 -- the counts of an accepted file, and none of a refused one
 abbrev pub sizesOf : Checked → Sizes
 sizesOf (Accepted n t) = record { n = n; t = t }
-sizesOf Length = record { n = 0; t = 0 }
-sizesOf Counts = record { n = 0; t = 0 }
-sizesOf Layout = record { n = 0; t = 0 }
-sizesOf Coordinate = record { n = 0; t = 0 }
-sizesOf Label = record { n = 0; t = 0 }
-sizesOf Twice = record { n = 0; t = 0 }
-sizesOf Flat = record { n = 0; t = 0 }
-sizesOf Crowded = record { n = 0; t = 0 }
-sizesOf Folded = record { n = 0; t = 0 }
+sizesOf (Refused k) = record { n = 0; t = 0 }
 
 unfoldable pub sizesIn : List ℕ → Sizes
 sizesIn f = sizesOf (checked f)

@@ -1,98 +1,54 @@
 // The check of a mesh file, refusals 1 to 9, and the view over an accepted file's own bytes. Knows nothing of cells.
-ghost use mathlib.Core.Path.{_≡_};
-ghost use Prim.Native.Nat.{_+_, _*_, _≤_};
-ghost use lib.ListN.{length};
-ghost use mathlib.Core.Bool.{true};
-ghost use Rattle.base.specs.Lists.{all};
-ghost use Rattle.space.specs.Box.{near};
-ghost use Rattle.layout.specs.Layout.{Framed, vertexPart, coordsIn};
-ghost use Rattle.mesh.specs.Check.{answered, faultIn, partsChecked, checked};
-ghost use Rattle.mesh.specs.View.{sizesIn, fits, placeIn, tetraIn, partIn};
-ghost use Rattle.mesh.specs.Reads.{pointRead, tetraRead};
-use layout::Headed;
+use arrays::Checked;
 use space::Point;
 use space::Tet;
 use space::Vertex;
-
-// What the check of a file answers: the counts, or the refusal.
-pub enum Checked {
-    Accepted { vertices: usize, tets: usize },
-    Length,
-    Counts,
-    Layout,
-    Coordinate,
-    Label,
-    Twice,
-    Flat,
-    Crowded,
-    Folded,
-}
-
-// The answer for the number of the tetrahedra's fault.
-fn answer(fault: u8, n: usize, t: usize) -> Checked
-    ensures { λ r. ⌜ r ≡ answered fault n t ⌝ }
-{
-    if fault == 0 {
-        return Checked::Accepted {
-            vertices: n,
-            tets: t,
-        };
-    }
-    if fault == 5 {
-        return Checked::Label;
-    }
-    if fault == 6 {
-        return Checked::Twice;
-    }
-    if fault == 7 {
-        return Checked::Flat;
-    }
-    if fault == 8 {
-        return Checked::Crowded;
-    }
-    Checked::Folded
-}
-
-// Decodes both parts of a file with bounded coordinates into the lent arrays; the number of the tetrahedra's fault.
-fn fault_in(file: &[u8], n: usize, t: usize, coords: &mut [i64], labels: &mut [u16]) -> u8
-    requires { ⌜ Framed (now file) n t ⌝ }
-    requires { ⌜ all near (coordsIn (vertexPart (now file)) (3 * n)) ≡ true ⌝ }
-    requires { ⌜ (length (now coords) ≡ 3 * n) × (length (now labels) ≡ 4 * t) ⌝ }
-    ensures { λ r. ⌜ r ≡ faultIn (now (file .entry)) n t ⌝ }
-{
-    layout::read_coordinates(&file[24..], coords);
-    let at = 24 + 12 * n;
-    layout::read_labels(&file[at..], labels);
-    facets::first_fault(coords, labels)
-}
+ghost use mathlib.Core.Path.{_≡_};
+ghost use Prim.Native.Nat.{_+_, _*_, _≤_};
+ghost use lib.ListN.{length};
+ghost use Rattle.layout.specs.Layout.{Framed};
+ghost use Rattle.arrays.specs.Refusals.{headed, checked};
+ghost use Rattle.arrays.specs.declared.Checked.the-variants.{Accepted};
+ghost use Rattle.mesh.specs.View.{sizesIn, fits, placeIn, tetraIn, partIn};
+ghost use Rattle.mesh.specs.Reads.{pointRead, tetraRead};
 
 // Refusals 4 to 9, of a file whose header is sound.
 fn check_parts(file: &[u8], n: usize, t: usize) -> Checked
-    requires { ⌜ Framed (now file) n t ⌝ }
-    ensures { λ r. ⌜ r ≡ partsChecked (now (file .entry)) n t ⌝ }
+    requires { ⌜ Framed (now file) n t × (headed (now file) ≡ Accepted n t) ⌝ }
+    ensures { λ r. ⌜ r ≡ checked (now (file .entry)) ⌝ }
 {
-    if !layout::all_near(&file[24..], 3 * n) {
-        return Checked::Coordinate;
-    }
     let mut coords: [i64; 1536] = [0; 1536];
     let mut labels: [u16; 8192] = [0; 8192];
-    answer(
-        fault_in(file, n, t, &mut coords[..3 * n], &mut labels[..4 * t]),
+    let mut parts: [u16; 2048] = [0; 2048];
+    let mut offsets: [u16; 513] = [0; 513];
+    let mut entries: [u16; 8192] = [0; 8192];
+    let number = arrays::load(
+        file,
         n,
         t,
-    )
+        &mut coords[..3 * n],
+        &mut labels[..4 * t],
+        &mut parts[..t],
+        &mut offsets[..n + 1],
+        &mut entries[..4 * t],
+    );
+    if number != 0 {
+        return Checked::Refused(number);
+    }
+    Checked::Accepted {
+        vertices: n,
+        tets: t,
+    }
 }
 
 // The file's answer: refusals 1 to 9 in their order, else the counts.
 pub fn check(file: &[u8]) -> Checked
     ensures { λ r. ⌜ r ≡ checked (now (file .entry)) ⌝ }
 {
-    let head = layout::header(file);
+    let head = arrays::header(file);
     match head {
-        Headed::Sound { vertices, tets } => check_parts(file, vertices, tets),
-        Headed::Length => Checked::Length,
-        Headed::Counts => Checked::Counts,
-        Headed::Layout => Checked::Layout,
+        Checked::Accepted { vertices, tets } => check_parts(file, vertices, tets),
+        Checked::Refused(number) => Checked::Refused(number),
     }
 }
 

@@ -1,7 +1,7 @@
 // The library for programs in C and Rust: each function under its plain name, over numbers, slices and small arrays.
 // A slice is a pointer and then a length. Every function answers 0, or the number of a refusal; what a refusal leaves
 // unchanged is said at each.
-use mesh::Checked;
+use arrays::Checked;
 use record::mark_of;
 use record::numbers_of;
 use records::Answer;
@@ -11,37 +11,24 @@ use templates::Least;
 ghost use mathlib.Core.Path.{_≡_};
 ghost use lib.ListN.{length};
 ghost use Rattle.space.specs.Box.{boxed, boxNumber};
-ghost use Rattle.mesh.specs.Check.{refusal, number};
+ghost use Rattle.arrays.specs.Refusals.{refusal};
 ghost use Rattle.templates.specs.Least.{leastForm, leastNumber};
 ghost use Rattle.records.specs.Marks.{answerNumber};
 ghost use Rattle.opalcrumb.specs.Boundary.{pointOf, boxLeft, leastLeft, markLeft, countLeft, endLeft, Passed};
-
-fn number_of(answer: Checked) -> u32
-    ensures { λ r. ⌜ r ≡ number answer ⌝ }
-{
-    match answer {
-        Checked::Accepted {
-            vertices: _,
-            tets: _,
-        } => 0,
-        Checked::Length => 1,
-        Checked::Counts => 2,
-        Checked::Layout => 3,
-        Checked::Coordinate => 4,
-        Checked::Label => 5,
-        Checked::Twice => 6,
-        Checked::Flat => 7,
-        Checked::Crowded => 8,
-        Checked::Folded => 9,
-    }
-}
 
 // 0 for a sound mesh, else refusal 1 to 9.
 #[no_mangle]
 pub extern "C" fn opalcrumb_check(file: &[u8]) -> u32
     ensures { λ r. ⌜ r ≡ refusal (now (file .entry)) ⌝ }
 {
-    number_of(mesh::check(file))
+    let answer = mesh::check(file);
+    match answer {
+        Checked::Accepted {
+            vertices: _,
+            tets: _,
+        } => 0,
+        Checked::Refused(number) => number as u32,
+    }
 }
 
 // A 32-bit number at 64 bits.
@@ -110,10 +97,12 @@ fn hand_out(answer: Answer, mark: &mut [u16; 9], count: &mut u32, end: &mut u32)
     ensures end { λ k. ⌜ now (end .exit) ≡ endLeft answer (now (end .entry)) ⌝ }
 {
     match answer {
-        Answer::Refused(number) => number as u32,
-        Answer::Long(written) => {
-            *count = (written % 4294967296) as u32;
-            12
+        Answer::Refused { number, written } => {
+            if number == 12 {
+                *count = (written % 4294967296) as u32;
+                return 12;
+            }
+            number as u32
         }
         Answer::Given {
             count: written,

@@ -24,7 +24,7 @@ use Rattle.portions.proofs.Loop.{portion-short, portion-none, portion-full, por
 use Rattle.rule.specs.Rule.{tetRule}
 use Rattle.rule.proofs.Full.{lawful, full-sane}
 use Rattle.following.specs.Following.{Came}
-use Rattle.records.specs.declared.Answer.the-variants.{Refused, Long, Given}
+use Rattle.records.specs.declared.Answer.the-variants.{Refused, Given}
 use Rattle.records.specs.Marks.{Written}
 
 -- ── the cell that was found ──
@@ -44,10 +44,9 @@ module _ (m : Mesh) {k j : List ℕ} {found : Bool} {f : Tets} (n : Came m k fou
 
 module _ (m : Mesh) where
   -- no room for a record
-  pub written-short : (k old : List ℕ) → length old < tetRule .size → Written m k old (Refused 11) old
+  pub written-short : (k old : List ℕ) → length old < tetRule .size → Written m k old (Refused 11 0) old
   written-short k old h = record {
     outcome = outcome-short tetRule (fullList m) (lawful m) k old h;
-    plain = refl;
     counted = ap (λ p. length (p .written)) (portion-short tetRule (fullList m) (lawful m) k (length old) h);
   }
 
@@ -60,7 +59,6 @@ module _ (m : Mesh) where
       pub written-none : (e : Mark) → markOf e ≡ tetRule .end → left ≡ false → Written m k old (Given i true e) l
       written-none e q t = record {
         outcome = rw q (outcome-none tetRule (fullList m) (lawful m) x wide n t);
-        plain = refl;
         counted = counted-as (portion-none tetRule (fullList m) (lawful m) wide (x .under) (sym n ∙ t));
       }
 
@@ -68,15 +66,13 @@ module _ (m : Mesh) where
       pub written-full : (e : Mark) → markOf e ≡ j → left ≡ true → i ≡ length old / tetRule .size → Written m k old (Given i false e) l
       written-full e q t h = record {
         outcome = rw q (outcome-full tetRule (fullList m) (lawful m) x wide n t h);
-        plain = refl;
         counted = counted-as (portion-full tetRule (fullList m) (lawful m) wide (x .under) (sym n ∙ t) (x .counted ∙ h));
       }
 
     -- a cell is left, with room for it, that no record can hold
-    pub written-long : tetRule .size ≤ length old → {found : Bool} {j′ : List ℕ} {f : Tets} (n : Came m j found j′ f) → found ≡ true → i < length old / tetRule .size → tetPlaces < f .count → Written m k old (Long i) l
+    pub written-long : tetRule .size ≤ length old → {found : Bool} {j′ : List ℕ} {f : Tets} (n : Came m j found j′ f) → found ≡ true → i < length old / tetRule .size → tetPlaces < f .count → Written m k old (Refused 12 i) l
     written-long wide n t h o = let u = fits-many m n t o in record {
       outcome = outcome-long tetRule (fullList m) (lawful m) x wide (n .next) t h u;
-      plain = refl;
       counted = counted-as (portion-long tetRule (fullList m) (lawful m) wide (x .under) (next-is tetRule (fullList m) (lawful m) t (n .next)) (omega (arith, x .counted)) u);
     }
 

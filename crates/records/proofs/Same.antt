@@ -4,7 +4,6 @@ use Prim.Native.Nat.{ℕ, _*_}
 use mathlib.Core.Path.{_≡_, refl, sym, _∙_, ap}
 use mathlib.Core.Bool.{Bool, true, false, true≢false}
 use mathlib.Core.List.{List, [], _∷_}
-use lib.Dec.{ltb}
 use lib.ListN.{getD}
 use native.Mathlib.Omega.{arith}
 use Rattle.base.specs.Laid.{lay}
@@ -15,8 +14,8 @@ use Rattle.rule.specs.Rule.{tetRule}
 use Rattle.record.specs.declared.Mark.{Mark}
 use Rattle.record.specs.Marks.{markOf}
 use Rattle.records.specs.declared.Answer.{Answer}
-use Rattle.records.specs.declared.Answer.the-variants.{Refused, Long, Given}
-use Rattle.records.specs.Marks.{says, wrote, isPlain, Written}
+use Rattle.records.specs.declared.Answer.the-variants.{Refused, Given}
+use Rattle.records.specs.Marks.{says, wrote, Written}
 
 -- the parts of what is said; a default where it has none
 abbrev refusal : portions.Answer → ℕ
@@ -43,16 +42,11 @@ mark-same : (m k : Mark) → markOf m ≡ markOf k → m ≡ k
 mark-same m k e = ap markBy e
 
 -- an answer by what it says and how many records it tells
-pub answer-same : (a b : Answer) → isPlain a ≡ true → isPlain b ≡ true → says a ≡ says b → wrote a ≡ wrote b → a ≡ b
-answer-same (Refused j) (Refused k) p q e n = ap (λ s. Refused (refusal s)) e
-answer-same (Refused j) (Long k) p q e n = absurd (true≢false (sym p ∙ ap (λ s. ltb (refusal s) 12) e))
-answer-same (Refused j) (Given c o k) p q e n = absurd (true≢false (sym (ap isGiven e)))
-answer-same (Long j) (Refused k) p q e n = absurd (true≢false (sym q ∙ ap (λ s. ltb (refusal s) 12) (sym e)))
-answer-same (Long j) (Long k) p q e n = ap Long n
-answer-same (Long j) (Given c o k) p q e n = absurd (true≢false (sym (ap isGiven e)))
-answer-same (Given c o k) (Refused j) p q e n = absurd (true≢false (ap isGiven e))
-answer-same (Given c o k) (Long j) p q e n = absurd (true≢false (ap isGiven e))
-answer-same (Given c o k) (Given d r j) p q e n = ap (λ i. Given i o k) n ∙ ap (λ b. Given d b k) (ap isNone e) ∙ ap (Given d r) (mark-same k j (ap markSaid e))
+pub answer-same : (a b : Answer) → says a ≡ says b → wrote a ≡ wrote b → a ≡ b
+answer-same (Refused j v) (Refused k w) e n = ap (λ s. Refused (refusal s) v) e ∙ ap (Refused k) n
+answer-same (Refused j v) (Given c o k) e n = absurd (true≢false (sym (ap isGiven e)))
+answer-same (Given c o k) (Refused j v) e n = absurd (true≢false (ap isGiven e))
+answer-same (Given c o k) (Given d r j) e n = ap (λ i. Given i o k) n ∙ ap (λ b. Given d b k) (ap isNone e) ∙ ap (Given d r) (mark-same k j (ap markSaid e))
 
 pub written-one : {m : Mesh} {k room : List ℕ} {a b : Answer} {left right : List ℕ} → Written m k room a left → Written m k room b right → (a ≡ b) × (left ≡ right)
-written-one {a = a} {b = b} x y = (answer-same a b (x .plain) (y .plain) (x .outcome .answered ∙ sym (y .outcome .answered)) (omega (arith, x .counted, y .counted)), x .outcome .stored .content ∙ sym (y .outcome .stored .content))
+written-one {a = a} {b = b} x y = (answer-same a b (x .outcome .answered ∙ sym (y .outcome .answered)) (omega (arith, x .counted, y .counted)), x .outcome .stored .content ∙ sym (y .outcome .stored .content))

@@ -2,9 +2,7 @@
 -- Assumes nothing.
 use Prim.Native.Nat.{ℕ, _*_}
 use mathlib.Core.Path.{_≡_}
-use mathlib.Core.Bool.{Bool, true}
 use mathlib.Core.List.{List}
-use lib.Dec.{ltb}
 use lib.ListN.{length}
 use Rattle.space.specs.Mesh.{Mesh}
 use Rattle.cells.specs.Full.{fullList}
@@ -14,34 +12,24 @@ use Rattle.portions.specs.Run.{Outcome}
 use Rattle.record.specs.Marks.{markOf}
 use Rattle.rule.specs.Rule.{tetRule}
 use Rattle.records.specs.declared.Answer.{Answer}
-use Rattle.records.specs.declared.Answer.the-variants.{Refused, Long, Given}
+use Rattle.records.specs.declared.Answer.the-variants.{Refused, Given}
 
 -- the answer by its number and values, as a portion has it
 abbrev pub says : Answer → portions.Answer
-says (Refused k) = refused k
-says (Long n) = refused 12
+says (Refused k n) = refused k
 says (Given count none mark) = given count none (markOf mark)
 
 -- the answer's number alone: 0, or the refusal's
 abbrev pub answerNumber : Answer → ℕ
-answerNumber (Refused k) = k
-answerNumber (Long n) = 12
+answerNumber (Refused k n) = k
 answerNumber (Given count none mark) = 0
 
 -- how many records are written
 abbrev pub wrote : Answer → ℕ
-wrote (Refused k) = 0
-wrote (Long n) = n
+wrote (Refused k n) = n
 wrote (Given count none mark) = count
-
--- 12 is told as `Long` alone
-abbrev pub isPlain : Answer → Bool
-isPlain (Refused k) = ltb k 12
-isPlain (Long n) = true
-isPlain (Given count none mark) = true
 
 -- what a portion of the cells of a mesh promises, from the mark k on in this room: the answer and what it leaves there, and how many records that is
 pub record Written (m : Mesh) (k room : List ℕ) (a : Answer) (left : List ℕ) : Type 0 where
   pub outcome : Outcome tetRule (fullList m) k room (says a) left
-  pub plain : isPlain a ≡ true
   pub counted : length (portion tetRule (fullList m) k (length room) .written) ≡ tetRule .size * wrote a

@@ -15,10 +15,13 @@ ghost use Rattle.levels.specs.Levels.{levels};
 ghost use Rattle.search.specs.Ready.{Ready};
 ghost use Rattle.records.specs.Marks.{Written};
 
-// A refusal by its number. `Long` is refusal 12 after this many records: the next cell has more tetrahedra than a record can hold.
+// A refusal by its number, with how many records were written before it: only 12, where the next cell has more tetrahedra
+// than a record can hold, comes after any.
 pub enum Answer {
-    Refused(u8),
-    Long(usize),
+    Refused {
+        number: u8,
+        written: usize,
+    },
     Given {
         count: usize,
         none_remain: bool,
@@ -45,7 +48,10 @@ pub fn write_cells(
     ensures { λ r. ⌜ Written (meshOf (now (coords .entry)) (now (labels .entry)) (now (parts .entry))) (markOf mark) (now (records .entry)) r (now (records .exit)) ⌝ }
 {
     if records.len() < SIZE {
-        return Answer::Refused(11);
+        return Answer::Refused {
+            number: 11,
+            written: 0,
+        };
     }
     let most = records.len() / SIZE;
     let mut i: usize = 0;
@@ -99,7 +105,10 @@ pub fn write_cells(
         let c = s.mark;
         let tets = s.tets;
         if TET_PLACES < tets.count {
-            return Answer::Long(i);
+            return Answer::Refused {
+                number: 12,
+                written: i,
+            };
         }
         let list = tets.list;
         put_record(records, i, c, tets.count, list);

@@ -4,15 +4,18 @@ use Prim.Native.Nat.{ℕ}
 use mathlib.Core.Path.{_≡_, refl, sym, _∙_, ap}
 use mathlib.Core.Bool.{cond}
 use mathlib.Core.List.{List, [], _∷_, _++_}
+use native.Mathlib.Omega.{arith}
 use lib.Dec.{eqb, ltb}
 use lib.ListN.{length, getD, drop}
 use Rattle.base.specs.Lists.{keep, spread}
+use Rattle.base.specs.Refusals.{firstOf}
 use Rattle.space.specs.Box.{box}
 use Rattle.space.specs.Mesh.{together}
 use Rattle.layout.specs.Bytes.{signed32, i32At}
-use Rattle.layout.specs.Layout.{vertices, decoded, lengthRight, countsRight, layoutRight, coordsIn, labelsIn, partsIn, coordinatesRight}
-use Rattle.facets.specs.Facets.{boxAt, opposite, outside, twice, flat, full, crowded, astray, clashes, clashing, folded, refused5, refused6, refused7, refused8, refused9, faultOf}
-use Rattle.mesh.specs.Check.{answered, checked, number, refusal}
+use Rattle.layout.specs.Layout.{vertices, decoded, lengthRight, countsRight, layoutRight, coordsIn, labelsIn, partsIn}
+use Rattle.tets.specs.Tets.{boxAt, outside, twice, flat}
+use Rattle.facets.specs.Facets.{opposite, full, crowded, astray, clashes, clashing, folded}
+use Rattle.arrays.specs.Refusals.{refusals, refusal}
 use Rattle.templates.specs.declared.Least.the-variants.{Form}
 use Rattle.templates.specs.Least.{rises, risesAt, leastBy, formBy, leastForm}
 use Rattle.cells.specs.Full.{Cell, cell, fullList}
@@ -26,12 +29,14 @@ use Rattle.rule.specs.Rule.{key, tetRule}
 use Rattle.records.specs.declared.Answer.{Answer}
 use Rattle.records.specs.Marks.{says}
 use Rattle.listing.specs.Portion.{barred, portionBy, tableLeft, Portioned}
+use Rattle.listing.proofs.Promised.{bars-file, bars-past}
+use Rattle.listing.proofs.File.{accepted-passed}
 use Rattle.worked.specs.Rows.{fileP, fileC, mixed, turned, tableP, tableC, Reply, left, formed, calling, least, ask, Worked}
 
 -- ---- the files' meshes and refusals
 
 unfoldable reading : ℕ
-unfolding box signed32 i32At lengthRight countsRight layoutRight coordsIn labelsIn partsIn coordinatesRight boxAt opposite outside twice flat full crowded astray clashes clashing folded refused5 refused6 refused7 refused8 refused9 faultOf answered checked number refusal
+unfolding box signed32 i32At lengthRight countsRight layoutRight coordsIn labelsIn partsIn boxAt opposite outside twice flat full crowded astray clashes clashing folded firstOf refusal
 reading = 0
 
 reads-P : decoded fileP ≡ meshP
@@ -100,52 +105,59 @@ table-mixed : tableOf (meshC 1) 8 ≡ tableC
 unfolding tabling
 table-mixed = refl
 
--- ---- a call by the file's refusal, its full list and its table
+-- ---- a call by the first refusal, its full list and its table
 
 module _ (k table room : List ℕ) where
-  abbrev barredBy : ℕ → List ℕ → ℕ
-  barredBy x ts = cond (eqb x 0) (cond (ltb (length table) (length ts)) 10 (cond (ltb (length room) (tetRule .size)) 11 0)) x
-
-  abbrev portionFrom : ℕ → List Cell → List ℕ → Portion
-  portionFrom x cs ts =
-      cond (eqb (barredBy x ts) 0) (portion tetRule cs k (length room)) (reply (refused (barredBy x ts)) [])
+  abbrev portionFrom : ℕ → List Cell → Portion
+  portionFrom x cs = cond (eqb x 0) (portion tetRule cs k (length room)) (reply (refused x) [])
 
   unfoldable replied : ℕ → List Cell → List ℕ → Reply
   replied x cs ts =
-      left (portionFrom x cs ts .answer) (cond (eqb (barredBy x ts) 0) (ts ++ drop (length ts) table) table)
-      (portionFrom x cs ts .written ++ drop (length (portionFrom x cs ts .written)) room)
+      left (portionFrom x cs .answer) (cond (eqb x 0) (ts ++ drop (length ts) table) table)
+      (portionFrom x cs .written ++ drop (length (portionFrom x cs .written)) room)
 
-  calls : (f : List ℕ) → ask (calling f k table room) ≡ replied (refusal f) (fullList (decoded f)) (tableOf (decoded f) (vertices f))
-  unfolding ask portionBy tableLeft barred replied
+  -- the first of 10 and 11 that applies
+  unfoldable roomed : List ℕ → ℕ
+  roomed ts = cond (ltb (length table) (length ts)) 10 (cond (ltb (length room) (tetRule .size)) 11 0)
+
+  calls : (f : List ℕ) → ask (calling f k table room) ≡ replied (barred (refusals f) (decoded f) (vertices f) (length table) (length room)) (fullList (decoded f)) (tableOf (decoded f) (vertices f))
+  unfolding ask portionBy tableLeft replied
   calls f = refl
 
-  calls-P : ask (calling fileP k table room) ≡ replied 0 (cell 5 (0 ∷ 1 ∷ 2 ∷ 3 ∷ 4 ∷ []) (0 ∷ 1 ∷ []) ∷ []) tableP
+  -- of an accepted file
+  bars : (f : List ℕ) → refusal f ≡ 0 → barred (refusals f) (decoded f) (vertices f) (length table) (length room) ≡ roomed (tableOf (decoded f) (vertices f))
+  unfolding barred firstOf roomed
+  bars f e = bars-past (refusals f) (decoded f) (vertices f) (accepted-passed f e) (length table) (length room)
+
+  accepts : (f : List ℕ) → refusal f ≡ 0 → ask (calling f k table room) ≡ replied (roomed (tableOf (decoded f) (vertices f))) (fullList (decoded f)) (tableOf (decoded f) (vertices f))
+  accepts f e = calls f ∙ ap (λ x. replied x (fullList (decoded f)) (tableOf (decoded f) (vertices f))) (bars f e)
+
+  calls-P : ask (calling fileP k table room) ≡ replied (roomed tableP) (cell 5 (0 ∷ 1 ∷ 2 ∷ 3 ∷ 4 ∷ []) (0 ∷ 1 ∷ []) ∷ []) tableP
   calls-P =
-      calls fileP
-      ∙ ap (λ x. replied x (fullList (decoded fileP)) (tableOf (decoded fileP) 5)) sound-P
-      ∙ ap (λ m. replied 0 (fullList m) (tableOf m 5)) reads-P
-      ∙ ap (λ cs. replied 0 cs (tableOf meshP 5)) full-P
-      ∙ ap (replied 0 (cell 5 (0 ∷ 1 ∷ 2 ∷ 3 ∷ 4 ∷ []) (0 ∷ 1 ∷ []) ∷ [])) table-P
+      accepts fileP sound-P
+      ∙ ap (λ m. replied (roomed (tableOf m 5)) (fullList m) (tableOf m 5)) reads-P
+      ∙ ap (λ cs. replied (roomed (tableOf meshP 5)) cs (tableOf meshP 5)) full-P
+      ∙ ap (λ ts. replied (roomed ts) (cell 5 (0 ∷ 1 ∷ 2 ∷ 3 ∷ 4 ∷ []) (0 ∷ 1 ∷ []) ∷ []) ts) table-P
 
-  calls-C : ask (calling fileC k table room) ≡ replied 0 listC tableC
+  calls-C : ask (calling fileC k table room) ≡ replied (roomed tableC) listC tableC
   calls-C =
-      calls fileC
-      ∙ ap (λ x. replied x (fullList (decoded fileC)) (tableOf (decoded fileC) 8)) sound-C
-      ∙ ap (λ m. replied 0 (fullList m) (tableOf m 8)) reads-C
-      ∙ ap (λ cs. replied 0 cs (tableOf (meshC 0) 8)) full-C
-      ∙ ap (replied 0 listC) table-C
+      accepts fileC sound-C
+      ∙ ap (λ m. replied (roomed (tableOf m 8)) (fullList m) (tableOf m 8)) reads-C
+      ∙ ap (λ cs. replied (roomed (tableOf (meshC 0) 8)) cs (tableOf (meshC 0) 8)) full-C
+      ∙ ap (λ ts. replied (roomed ts) listC ts) table-C
 
-  calls-mixed : ask (calling mixed k table room) ≡ replied 0 [] tableC
+  calls-mixed : ask (calling mixed k table room) ≡ replied (roomed tableC) [] tableC
   calls-mixed =
-      calls mixed
-      ∙ ap (λ x. replied x (fullList (decoded mixed)) (tableOf (decoded mixed) 8)) sound-mixed
-      ∙ ap (λ m. replied 0 (fullList m) (tableOf m 8)) reads-mixed
-      ∙ ap (λ cs. replied 0 cs (tableOf (meshC 1) 8)) full-mixed
-      ∙ ap (replied 0 []) table-mixed
+      accepts mixed sound-mixed
+      ∙ ap (λ m. replied (roomed (tableOf m 8)) (fullList m) (tableOf m 8)) reads-mixed
+      ∙ ap (λ cs. replied (roomed (tableOf (meshC 1) 8)) cs (tableOf (meshC 1) 8)) full-mixed
+      ∙ ap (λ ts. replied (roomed ts) [] ts) table-mixed
 
   calls-turned : ask (calling turned k table room) ≡ left (refused 7) table room
-  unfolding replied
-  calls-turned = calls turned ∙ ap (λ x. replied x (fullList (decoded turned)) (tableOf (decoded turned) 8)) flat-turned
+  unfolding replied refusal
+  calls-turned =
+      calls turned
+      ∙ ap (λ x. replied x (fullList (decoded turned)) (tableOf (decoded turned) 8)) (bars-file (refusals turned) (decoded turned) (vertices turned) (length table) (length room) (omega (arith, flat-turned)) ∙ flat-turned)
 
   -- any outcome of a call that its promise permits is the one that the row says
   pub replies : (f : List ℕ) {a : Answer} {table′ room′ : List ℕ} → Portioned f k table room a table′ room′ → ask (calling f k table room) ≡ left (says a) table′ room′
@@ -155,7 +167,7 @@ module _ (k table room : List ℕ) where
 -- ---- the rows
 
 unfoldable opened : ℕ
-unfolding keep spread before isAfter after records lastMark portionOf portion key entries replied
+unfolding keep spread before isAfter after records lastMark portionOf portion key entries replied roomed
 opened = 0
 
 least-8 : ask (least 8 (1 ∷ 2 ∷ 3 ∷ 0 ∷ 5 ∷ 6 ∷ 7 ∷ 4 ∷ [])) ≡ formed 0 (Form 0 1 2 3 4 5 6 7)

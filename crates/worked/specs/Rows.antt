@@ -6,7 +6,7 @@ use mathlib.Core.Bool.{true, false}
 use mathlib.Core.List.{List, [], _∷_, _++_, map}
 use lib.ListN.{length, take, replicate}
 use Rattle.layout.specs.Layout.{vertices, decoded}
-use Rattle.mesh.specs.Check.{refusal}
+use Rattle.arrays.specs.Refusals.{refusals}
 use Rattle.mesh.specs.Rows.{u16, joins, pyramid, cube}
 use Rattle.templates.specs.declared.Least.{Least}
 use Rattle.templates.specs.declared.Least.the-variants.{Form}
@@ -93,9 +93,9 @@ pub data Reply : Type 0 where
 unfoldable pub ask : Question → Reply
 ask (calling f k table room) =
     left
-    (portionBy (refusal f) (decoded f) (vertices f) k (length table) (length room) .answer)
-    (tableLeft (refusal f) (decoded f) (vertices f) table (length room))
-    (roomLeft (refusal f) (decoded f) (vertices f) k (length table) room)
+    (portionBy (refusals f) (decoded f) (vertices f) k (length table) (length room) .answer)
+    (tableLeft (refusals f) (decoded f) (vertices f) table (length room))
+    (roomLeft (refusals f) (decoded f) (vertices f) k (length table) room)
 ask (least k c) = formed (leastNumber (leastForm k c)) (leastForm k c)
 
 pub record Row : Type 0 where

@@ -1,5 +1,5 @@
 -- `facets::any_crowded` meets its contract. Assumes nothing.
-use Rattle.facets.proofs.Tests.{any-up}
+use Rattle.tets.proofs.Tests.{any-up}
 use mathlib.Core.Path.{_≡_, refl, sym, _∙_}
 use Prim.Native.Nat.{_/_, _-_}
 use native.Mathlib.Omega.{arith}

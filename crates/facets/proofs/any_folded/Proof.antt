@@ -5,7 +5,7 @@ use native.Mathlib.Omega.{arith}
 use lib.ListN.{length}
 use Rattle.base.proofs.Loop.{AnyUp, any-start, any-next, any-found, any-done}
 use Rattle.facets.specs.Facets.{folded}
-use Rattle.facets.proofs.Tests.{any-up}
+use Rattle.tets.proofs.Tests.{any-up}
 use Rattle.facets.proofs.any_folded.Statement.{statement}
 use Rattle.facets.proofs.any_folded.Tie as tie
 

@@ -1,26 +1,13 @@
 -- `listing::portion_in` meets its contract. Assumes nothing.
-use mathlib.Core.Path.{ap}
-use Prim.Native.Nat.{_*_}
+use mathlib.Core.Path.{sym, _∙_}
 use native.Mathlib.Omega.{arith}
-use lib.ListN.{length}
-use Rattle.layout.specs.Layout.{tetPart}
-use Rattle.layout.proofs.Framed.{labels-long}
-use Rattle.listing.proofs.File.{held, promised-file}
+use Rattle.listing.proofs.File.{refused-file, promised-file}
 use borrow.Author.Needs.{needs}
 use Rattle.listing.proofs.portion_in.Statement.{statement}
 use Rattle.listing.proofs.portion_in.Tie as tie
 
-decode-requires : tie.Need-decode-requires
-decode-requires c κs =
-    let p = c .before .before .before .before .before .before .before .before .before .before .before .pre in
-    (p .0 .0, p .1 .0)
-
-portion-of-requires : tie.Need-portion-of-requires
-portion-of-requires c κs =
-    let s = c .before .before .before .before .before .before .before .before .before .before .before .before .before .before .before .before .before .before .before .before .before .before .before .before .before in
-    let e = c .before .before .before .before .before .before .before .before .before .before .before .before .before .decode .ensures in
-    let h = held (s .args .file .now) (s .args .n) (s .args .t) (s .pre .0 .1) (e .0) (e .1 .0) (e .1 .1) in
-    (h, (s .pre .1 .1 .0, (omega (arith, s .pre .1 .1 .1 .0, ap length (e .1 .0), labels-long (tetPart (s .args .n) (s .args .file .now)) (4 * s .args .t)), s .pre .1 .1 .1 .1)))
+load-requires : tie.Need-load-requires
+load-requires c κs = search needs
 
 same-length : tie.Need-same-length
 same-length c = search needs
@@ -37,6 +24,12 @@ same-length-4 c = search needs
 same-length-5 : tie.Need-same-length-5
 same-length-5 c = search needs
 
+returns : tie.Need-returns
+returns c = refused-file _ _ _ _ (sym (c .before .before .before .before .before .before .before .before .before .before .load .ensures .told)) (omega arith)
+
+portion-of-requires : tie.Need-portion-of-requires
+portion-of-requires c κs = c .before .before .before .before .before .before .before .before .before .before .before .before .before .before .before .before .before .load .ensures .arrays (c .before .before .before .before .before .before .before .if1 .left)
+
 same-length-6 : tie.Need-same-length-6
 same-length-6 c = search needs
 
@@ -46,24 +39,40 @@ same-length-7 c = search needs
 same-length-8 : tie.Need-same-length-8
 same-length-8 c = search needs
 
-returns : tie.Need-returns
-returns c =
-    let s = c .before .before .before .before .before .before .before .before .before .before .before .before .before .before .before .before .before .before .before .before .before .before .before .before .before .before .before .before .before .before .before .before .before .before .before .before in
-    let e = c .before .before .before .before .before .before .before .before .before .before .before .before .before .before .before .before .before .before .before .before .before .before .before .before .decode .ensures in
-    promised-file (s .args .file .now) (s .args .n) (s .args .t) (s .pre .0 .1) (e .0) (e .1 .0) (e .1 .1) (c .before .before .before .before .before .before .before .before .before .before .portion-of .ensures)
+same-length-9 : tie.Need-same-length-9
+same-length-9 c = search needs
+
+same-length-10 : tie.Need-same-length-10
+same-length-10 c = search needs
+
+same-length-11 : tie.Need-same-length-11
+same-length-11 c = search needs
+
+same-length-12 : tie.Need-same-length-12
+same-length-12 c = search needs
+
+returns-2 : tie.Need-returns-2
+returns-2 c =
+    let l = c .before .before .before .before .before .before .before .before .before .before .before .before .before .before .before .before .before .before .before .before .before .before .load .ensures in
+    promised-file _ (sym (l .told) ∙ c .before .before .before .before .before .before .before .before .before .before .before .before .if1 .left) (l .is) (c .before .before .before .before .before .before .before .before .before .before .before .before .before .before .before .before .before .before .before .before .before .before .before .before .before .before .before .before .before .before .before .before .before .before .before .pre .0 .0 .vertex) (c .before .before .before .before .portion-of .ensures)
 
 pub portion-in-spec : {M : Type 1} → statement M
 portion-in-spec =
     tie.close
     (tie.spec
-    decode-requires
-    portion-of-requires
+    load-requires
     same-length
     same-length-2
     same-length-3
     same-length-4
     same-length-5
+    returns
+    portion-of-requires
     same-length-6
     same-length-7
     same-length-8
-    returns)
+    same-length-9
+    same-length-10
+    same-length-11
+    same-length-12
+    returns-2)

@@ -1,5 +1,6 @@
 -- `listing::portion_of` meets its contract. Assumes nothing.
-use mathlib.Core.Path.{refl, sym, _∙_}
+use mathlib.Core.Path.{sym, _∙_}
+use mathlib.Core.List.{[]}
 use native.Mathlib.Omega.{arith}
 use borrow.Author.Tests.{leb-true, leb-false}
 use lib.ListN.{length}
@@ -15,7 +16,7 @@ is-roomy-requires : tie.Need-is-roomy-requires
 is-roomy-requires c κs = search needs
 
 fill-if-requires : tie.Need-fill-if-requires
-fill-if-requires c κs = (c .before .before .before .before .before .before .before .before .before .before .pre .0 .few, c .before .before .before .before .before .before .before .before .before .before .pre .0 .labelled)
+fill-if-requires c κs = search needs
 
 enum-told : tie.Need-enum-told
 enum-told c = search needs
@@ -25,9 +26,11 @@ enum-told-2 c = search needs
 
 write-listed-requires : tie.Need-write-listed-requires
 write-listed-requires c κs =
-    let s = c .before .before .before .before .before .before .before .before .before .before .before .before .before .before .before .before .before .before .before .before .before in
-    let l = says-long (s .args .coords .now) (s .args .labels .now) (s .args .parts .now) (s .args .n) (length (s .args .table .now)) (sym (c .before .before .before .before .before .before .enum-told2 .given .1) ∙ c .before .before .before .before .before .before .before .before .before .before .fill-if .ensures .0) in
-    (s .pre .0, (s .pre .1, tabled (s .args .coords .now) (s .args .labels .now) (s .args .parts .now) (s .args .n) (s .args .table .now) (filled-long (s .args .coords .now) (s .args .labels .now) (s .args .parts .now) (s .args .n) (s .args .table .now) (c .before .before .before .before .before .before .before .before .before .before .before .before .is-roomy .result) (c .before .before .before .before .before .if1 .taken) l (c .before .before .before .before .before .before .before .before .before .before .fill-if .ensures .1))))
+    let s = c .before .before .before .before .before .before .before .before .before .before .before .before .before .before .before .before .before in
+    let a = s .args in
+    let f = c .before .before .before .before .before .before .before in
+    let l = says-long (a .coords .now) (a .labels .now) (a .parts .now) (a .n) (length (a .table .now)) (sym (c .before .before .before .enum-told2 .given .1) ∙ f .fill-if .ensures .0) in
+    (s .pre, tabled (a .coords .now) (a .labels .now) (a .parts .now) (a .n) (a .table .now) (filled-long (a .coords .now) (a .labels .now) (a .parts .now) (a .n) (a .table .now) (f .before .before .is-roomy .result) (c .before .before .if1 .taken) l (f .fill-if .ensures .1)))
 
 same-length : tie.Need-same-length
 same-length c = search needs
@@ -37,13 +40,13 @@ same-length-2 c = search needs
 
 returns : tie.Need-returns
 returns c =
-    let s = c .before .before .before .before .before .before .before .before .before .before .before .before .before .before .before in
-    let a = s .args in
-    let l = says-short (a .coords .now) (a .labels .now) (a .parts .now) (a .n) (length (a .table .now)) (sym (c .enum-told .given .1) ∙ c .before .before .before .before .fill-if .ensures .0) in
-    promised-refused 0 (meshOf (a .coords .now) (a .labels .now) (a .parts .now)) (a .n) _ (a .table .now) (a .records .now) 10
-    (bars-table 0 (meshOf (a .coords .now) (a .labels .now) (a .parts .now)) (a .n) (length (a .table .now)) (length (a .records .now)) refl l)
-    (omega arith) (omega arith)
-    (stays-short (a .coords .now) (a .labels .now) (a .parts .now) (a .n) (a .table .now) (c .before .before .before .before .before .before .is-roomy .result) l (c .before .before .before .before .fill-if .ensures .1))
+    let a = c .before .before .before .before .before .before .before .before .before .before .before .before .before .before .args in
+    let f = c .before .before .before .before in
+    let l = says-short (a .coords .now) (a .labels .now) (a .parts .now) (a .n) (length (a .table .now)) (sym (c .enum-told .given .1) ∙ f .fill-if .ensures .0) in
+    promised-refused [] (meshOf (a .coords .now) (a .labels .now) (a .parts .now)) (a .n) _ (a .table .now) (a .records .now) 10
+    (bars-table [] (meshOf (a .coords .now) (a .labels .now) (a .parts .now)) (a .n) tt (length (a .table .now)) (length (a .records .now)) l)
+    (omega arith)
+    (stays-short (a .coords .now) (a .labels .now) (a .parts .now) (a .n) (a .table .now) (f .before .before .is-roomy .result) l (f .fill-if .ensures .1))
 
 same-length-3 : tie.Need-same-length-3
 same-length-3 c = search needs
@@ -51,40 +54,33 @@ same-length-3 c = search needs
 same-length-4 : tie.Need-same-length-4
 same-length-4 c = search needs
 
+returns-2 : tie.Need-returns-2
+returns-2 c =
+    let a = c .before .before .before .before .before .before .before .before .before .before .before .before .before .before .before .before .before .before .before .before .args in
+    let f = c .before .before .before .before .before .before .before .before .before .before in
+    let i = c .before .before .before .before .before in
+    let r = f .before .before .is-roomy in
+    let l = says-long (a .coords .now) (a .labels .now) (a .parts .now) (a .n) (length (a .table .now)) (sym (i .before .enum-told2 .given .1) ∙ f .fill-if .ensures .0) in
+    promised-written [] (meshOf (a .coords .now) (a .labels .now) (a .parts .now)) (a .n) _ (a .table .now) (a .records .now)
+    (bars-none [] (meshOf (a .coords .now) (a .labels .now) (a .parts .now)) (a .n) tt (length (a .table .now)) (length (a .records .now)) l (leb-true 35 _ (sym (r .ensures) ∙ i .if1 .taken)))
+    (filled-long (a .coords .now) (a .labels .now) (a .parts .now) (a .n) (a .table .now) (r .result) (i .if1 .taken) l (f .fill-if .ensures .1))
+    (c .before .before .write-listed .ensures)
+
 same-length-5 : tie.Need-same-length-5
 same-length-5 c = search needs
 
 same-length-6 : tie.Need-same-length-6
 same-length-6 c = search needs
 
-same-length-7 : tie.Need-same-length-7
-same-length-7 c = search needs
-
-returns-2 : tie.Need-returns-2
-returns-2 c =
-    let s = c .before .before .before .before .before .before .before .before .before .before .before .before .before .before .before .before .before .before .before .before .before .before .before .before .before .before .before .before .before .before in
-    let a = s .args in
-    let l = says-long (a .coords .now) (a .labels .now) (a .parts .now) (a .n) (length (a .table .now)) (sym (c .before .before .before .before .before .before .before .before .before .before .before .before .before .before .before .enum-told2 .given .1) ∙ c .before .before .before .before .before .before .before .before .before .before .before .before .before .before .before .before .before .before .before .fill-if .ensures .0) in
-    promised-written 0 (meshOf (a .coords .now) (a .labels .now) (a .parts .now)) (a .n) _ (a .table .now) (a .records .now)
-    (bars-none 0 (meshOf (a .coords .now) (a .labels .now) (a .parts .now)) (a .n) (length (a .table .now)) (length (a .records .now)) refl l (leb-true recordSize _ (sym (c .before .before .before .before .before .before .before .before .before .before .before .before .before .before .before .before .before .before .before .before .before .is-roomy .ensures) ∙ c .before .before .before .before .before .before .before .before .before .before .before .before .before .before .if1 .taken)))
-    (filled-long (a .coords .now) (a .labels .now) (a .parts .now) (a .n) (a .table .now) (c .before .before .before .before .before .before .before .before .before .before .before .before .before .before .before .before .before .before .before .before .before .is-roomy .result) (c .before .before .before .before .before .before .before .before .before .before .before .before .before .before .if1 .taken) l (c .before .before .before .before .before .before .before .before .before .before .before .before .before .before .before .before .before .before .before .fill-if .ensures .1))
-    (c .before .before .before .before .before .before .before .before .write-listed .ensures)
-
-same-length-8 : tie.Need-same-length-8
-same-length-8 c = search needs
-
-same-length-9 : tie.Need-same-length-9
-same-length-9 c = search needs
-
 returns-3 : tie.Need-returns-3
 returns-3 c =
-    let s = c .before .before .before .before .before .before .before .before .before .before .before .before .before .before .before .before in
-    let a = s .args in
-    let l = says-long (a .coords .now) (a .labels .now) (a .parts .now) (a .n) (length (a .table .now)) (sym (c .before .enum-told2 .given .1) ∙ c .before .before .before .before .before .fill-if .ensures .0) in
-    promised-refused 0 (meshOf (a .coords .now) (a .labels .now) (a .parts .now)) (a .n) _ (a .table .now) (a .records .now) 11
-    (bars-room 0 (meshOf (a .coords .now) (a .labels .now) (a .parts .now)) (a .n) (length (a .table .now)) (length (a .records .now)) refl l (leb-false recordSize _ (sym (c .before .before .before .before .before .before .before .is-roomy .ensures) ∙ c .if1 .left)))
-    (omega arith) (omega arith)
-    (c .before .before .before .before .before .fill-if .ensures .1 ∙ rw (c .if1 .left))
+    let a = c .before .before .before .before .before .before .before .before .before .before .before .before .before .before .before .args in
+    let f = c .before .before .before .before .before in
+    let l = says-long (a .coords .now) (a .labels .now) (a .parts .now) (a .n) (length (a .table .now)) (sym (c .before .enum-told2 .given .1) ∙ f .fill-if .ensures .0) in
+    promised-refused [] (meshOf (a .coords .now) (a .labels .now) (a .parts .now)) (a .n) _ (a .table .now) (a .records .now) 11
+    (bars-room [] (meshOf (a .coords .now) (a .labels .now) (a .parts .now)) (a .n) tt (length (a .table .now)) (length (a .records .now)) l (leb-false recordSize _ (sym (f .before .before .is-roomy .ensures) ∙ c .if1 .left)))
+    (omega arith)
+    (f .fill-if .ensures .1 ∙ rw (c .if1 .left))
 
 pub portion-of-spec : {M : Type 1} → statement M
 portion-of-spec =
@@ -100,10 +96,7 @@ portion-of-spec =
     returns
     same-length-3
     same-length-4
+    returns-2
     same-length-5
     same-length-6
-    same-length-7
-    returns-2
-    same-length-8
-    same-length-9
     returns-3)

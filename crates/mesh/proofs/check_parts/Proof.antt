@@ -1,39 +1,14 @@
--- `mesh::check_parts` meets its contract. Assumes nothing.
-use mathlib.Core.Path.{_≡_, sym, _∙_, ap}
-use Prim.Native.Nat.{_*_}
+-- `mesh::check_parts` meets its contract: the answer by the number that was told. Assumes nothing.
+use mathlib.Core.Path.{sym, _∙_}
+use mathlib.Core.List.{List}
+use Prim.Native.Nat.{ℕ, suc, _+_, _*_, _≤_}
+use native.Mathlib.Omega.{arith}
+use lib.ListN.{length, take, replicate}
 use lib.Seq.{length-take-le}
-use borrow.Author.Tests.{not-true, not-false}
-use Rattle.base.specs.Lists.{all}
-use Rattle.space.specs.Box.{near}
-use Rattle.layout.specs.Layout.{vertexPart, coordsIn}
-use Rattle.mesh.specs.Check.{answered, partsChecked}
-use Rattle.mesh.proofs.Parts.{near-of-part}
+use Rattle.arrays.proofs.Answers.{answer-refused, answer-accepted}
 use borrow.Author.Needs.{needs}
 use Rattle.mesh.proofs.check_parts.Statement.{statement}
 use Rattle.mesh.proofs.check_parts.Tie as tie
-
--- the test of the coordinates
-tested : (c : tie.After-all-near) → all near (coordsIn (vertexPart (c .before .before .before .args .file .now)) (3 * c .before .before .before .args .n)) ≡ c .all-near .result
-tested c = near-of-part (c .before .before .before .args .file .now) _ (c .all-near .ensures)
-
-sub-all-near : tie.Need-sub-all-near
-sub-all-near c = search needs
-
-part-all-near-start : tie.Need-part-all-near-start
-part-all-near-start c = search needs
-
-part-all-near-end : tie.Need-part-all-near-end
-part-all-near-end c = search needs
-
-mul-all-near : tie.Need-mul-all-near
-mul-all-near c = search needs
-
-all-near-requires : tie.Need-all-near-requires
-all-near-requires c κs = search needs
-
-returns : tie.Need-returns
-unfolding partsChecked
-returns c = rw (tested (c .before) ∙ not-true _ (c .if1 .taken))
 
 mul-coords : tie.Need-mul-coords
 mul-coords c = search needs
@@ -41,8 +16,12 @@ mul-coords c = search needs
 array-borrow-prefix-coords : tie.Need-array-borrow-prefix-coords
 array-borrow-prefix-coords c = search needs
 
-slice-aggregate-fault-in : tie.Need-slice-aggregate-fault-in
-slice-aggregate-fault-in c = sym (length-take-le _ _ (search needs))
+-- a front that is long enough
+reaches : (k j : ℕ) (l : List ℕ) → j ≤ length l → k ≤ j → k ≤ length (take j l)
+reaches k j l h i = rw (length-take-le j l h) i
+
+slice-aggregate-load : tie.Need-slice-aggregate-load
+slice-aggregate-load c = sym (length-take-le _ _ (search needs))
 
 mul-labels : tie.Need-mul-labels
 mul-labels c = search needs
@@ -50,45 +29,69 @@ mul-labels c = search needs
 array-borrow-prefix-labels : tie.Need-array-borrow-prefix-labels
 array-borrow-prefix-labels c = search needs
 
-slice-aggregate-fault-in-2 : tie.Need-slice-aggregate-fault-in-2
-slice-aggregate-fault-in-2 c = sym (length-take-le _ _ (search needs))
+slice-aggregate-load-2 : tie.Need-slice-aggregate-load-2
+slice-aggregate-load-2 c = sym (length-take-le _ _ (search needs))
 
-fault-in-requires : tie.Need-fault-in-requires
-fault-in-requires c κs =
+array-borrow-prefix-parts : tie.Need-array-borrow-prefix-parts
+array-borrow-prefix-parts c = search needs
+
+slice-aggregate-load-3 : tie.Need-slice-aggregate-load-3
+slice-aggregate-load-3 c = sym (length-take-le _ _ (search needs))
+
+add-offsets : tie.Need-add-offsets
+add-offsets c = search needs
+
+array-borrow-prefix-offsets : tie.Need-array-borrow-prefix-offsets
+array-borrow-prefix-offsets c = search needs
+
+slice-aggregate-load-4 : tie.Need-slice-aggregate-load-4
+slice-aggregate-load-4 c = sym (length-take-le _ _ (search needs))
+
+mul-entries : tie.Need-mul-entries
+mul-entries c = search needs
+
+array-borrow-prefix-entries : tie.Need-array-borrow-prefix-entries
+array-borrow-prefix-entries c = search needs
+
+slice-aggregate-load-5 : tie.Need-slice-aggregate-load-5
+slice-aggregate-load-5 c = sym (length-take-le _ _ (search needs))
+
+load-requires : tie.Need-load-requires
+load-requires c κs =
     let s = c .before .before .before .before .before .before in (
-      s .pre,
+      s .pre .1,
       (
-        tested (c .before .before .before) ∙ not-false _ (c .before .before .if1 .left),
-        (length-take-le _ _ (search needs), length-take-le _ _ (search needs)),
+        (length-take-le _ _ (search needs), (length-take-le _ _ (search needs), length-take-le _ _ (search needs))),
+        (reaches (suc (s .args .n)) (s .args .n + 1) (replicate 513 0) (search needs) (omega arith), reaches (4 * s .args .t) (4 * s .args .t) (replicate 8192 0) (search needs) (omega arith)),
       ),
     )
 
-answer-requires : tie.Need-answer-requires
-answer-requires c κs = search needs
+returns : tie.Need-returns
+returns c = answer-refused _ (c .before .before .before .before .before .before .load .ensures .told) (omega arith)
 
 returns-2 : tie.Need-returns-2
-unfolding partsChecked
 returns-2 c =
-    let s = c .before .before .before .before .before .before .before .before .before .before in
-    rw (tested (c .before .before .before .before .before .before .before) ∙ not-false _ (c .before .before .before .before .before .before .if1 .left))
-    (c .answer .ensures ∙ ap (λ k. answered k (s .args .n) (s .args .t)) (c .before .before .before .fault-in .ensures))
+    let s = c .before .before .before .before .before .before .before .before .before .before .before .before .before in
+    answer-accepted _ (sym (c .if1 .left) ∙ c .before .before .before .before .before .before .load .ensures .told) (s .pre .0 .vertex) (s .pre .0 .tet)
 
 pub check-parts-spec : {M : Type 1} → statement M
 check-parts-spec =
     tie.close
     (tie.spec
-    sub-all-near
-    part-all-near-start
-    part-all-near-end
-    mul-all-near
-    all-near-requires
-    returns
     mul-coords
     array-borrow-prefix-coords
-    slice-aggregate-fault-in
+    slice-aggregate-load
     mul-labels
     array-borrow-prefix-labels
-    slice-aggregate-fault-in-2
-    fault-in-requires
-    answer-requires
+    slice-aggregate-load-2
+    array-borrow-prefix-parts
+    slice-aggregate-load-3
+    add-offsets
+    array-borrow-prefix-offsets
+    slice-aggregate-load-4
+    mul-entries
+    array-borrow-prefix-entries
+    slice-aggregate-load-5
+    load-requires
+    returns
     returns-2)

@@ -1,0 +1,4 @@
+pub mod Answers
+pub mod Numbers
+pub mod Accepted
+pub mod Loads
