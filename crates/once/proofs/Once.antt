@@ -186,7 +186,6 @@ module _ (m : Mesh) {t : Template} (member : List·Memᴰ t templates) where
   letters : List ℕ → List ℕ
   letters s = at s (t .places)
 
-
   -- a turn of c that is in least form is the one least form
   only : (c r : List ℕ) {l : List ℕ} → keep (isLeast t) (map (at c) (t .turns)) ≡ l ∷ [] → List·Memᴰ r (t .turns) → isLeast t (at c r) ≡ true → at c r ≡ l
   only c r {l} q h e = List·Memᴰ·eq-of-singleton (subst (λ (x : List (List ℕ)). List·Memᴰ (at c r) x) q (keep-mem (isLeast t) (map (at c) (t .turns)) (map-mem (at c) (t .turns) h) e))

@@ -36,7 +36,6 @@ module _ (ls ps : List ℕ) (qs : List (List ℕ)) (c : List ℕ) where
   pub listed-within : {xs : List ℕ} → xs ≡ ownNumbers ls qs c → length ps ≡ length ls / 4 → Within (length ls / 4) xs × Within (length ps) xs
   listed-within e p = (rw e numbers-within, rw (e, p) numbers-within)
 
-
 -- ---- all of them, gathered in an array of 2,048
 
 pub record Gathered (b : ℕ → Bool) (i : ℕ) (l : List ℕ) (k : ℕ) : Type 0 where
