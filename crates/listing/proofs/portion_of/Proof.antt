@@ -62,7 +62,7 @@ returns-2 c =
     let r = f .before .before .is-roomy in
     let l = says-long (a .coords .now) (a .labels .now) (a .parts .now) (a .n) (length (a .table .now)) (sym (i .before .enum-told2 .given .1) ∙ f .fill-if .ensures .0) in
     promised-written [] (meshOf (a .coords .now) (a .labels .now) (a .parts .now)) (a .n) _ (a .table .now) (a .records .now)
-    (bars-none [] (meshOf (a .coords .now) (a .labels .now) (a .parts .now)) (a .n) tt (length (a .table .now)) (length (a .records .now)) l (leb-true 35 _ (sym (r .ensures) ∙ i .if1 .taken)))
+    (bars-none [] (meshOf (a .coords .now) (a .labels .now) (a .parts .now)) (a .n) tt (length (a .table .now)) (length (a .records .now)) l (leb-true recordSize _ (sym (r .ensures) ∙ i .if1 .taken)))
     (filled-long (a .coords .now) (a .labels .now) (a .parts .now) (a .n) (a .table .now) (r .result) (i .if1 .taken) l (f .fill-if .ensures .1))
     (c .before .before .write-listed .ensures)
 
