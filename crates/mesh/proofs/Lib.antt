@@ -4,3 +4,4 @@ pub mod Accepted
 pub mod Opened
 pub mod Number
 pub mod Worked
+pub mod Handed
