@@ -1,3 +1,4 @@
 pub mod Held
 pub mod Opened
 pub mod Worked
+pub mod Handed
