@@ -7,7 +7,7 @@ use native.Mathlib.Numerals.{add-one}
 use native.Mathlib.Omega.{arith}
 use lib.ListN.{length, getD, take, set, replicate, length-replicate, length-set, length-append}
 use lib.Seq.{length-take-le, take-all, take-at, take-suc-set}
-use Rattle.base.specs.Lists.{keep, from, upTo, pad}
+use Rattle.base.specs.Lists.{keep, from, upTo}
 use Rattle.around.specs.Build.{Within}
 use Rattle.cells.specs.Rows.{owns, ownNumbers}
 use Rattle.filling.specs.declared.Tets.{Tets}
