@@ -60,6 +60,11 @@ module _ (f : List ℕ → Bool) where
   abbrev pub allFaces : List (List ℕ) → List (List ℕ) → Bool
   allFaces ts qs = all f ts && all splits qs
 
+-- the box of four vertices, among these points
+abbrev pub boxOf : List Point → List ℕ → ℤ
+boxOf ps vs =
+    box (getD ps (getD vs 0 0) origin) (getD ps (getD vs 1 0) origin) (getD ps (getD vs 2 0) origin) (getD ps (getD vs 3 0) origin)
+
 -- 4: the boxes at these rows of a corner and its neighbours are above 0, where b tells the box of four vertices
 abbrev pub boxesAbove : (List ℕ → ℤ) → List ℕ → List (List ℕ) → Bool
 boxesAbove b c rows = all (λ ks. isAbove0 (b (at c ks))) rows
@@ -94,11 +99,7 @@ allAgree f es = all (λ d. all (λ e. eqb (f d) (f e)) es) es
 
 -- ---- the same of a mesh and a template
 
--- the box of four vertices, among these points and in a mesh
-abbrev pub boxOf : List Point → List ℕ → ℤ
-boxOf ps vs =
-    box (getD ps (getD vs 0 0) origin) (getD ps (getD vs 1 0) origin) (getD ps (getD vs 2 0) origin) (getD ps (getD vs 3 0) origin)
-
+-- the box of four vertices
 unfoldable pub boxAt : Mesh → List ℕ → ℤ
 boxAt m vs = boxOf (m .points) vs
 

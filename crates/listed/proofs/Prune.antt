@@ -1,15 +1,15 @@
 -- A tuple that is listed passes the test of every level: pruning leaves out no cell.
 -- Assumes nothing.
-use Prim.Native.Nat.{ℕ, zero, suc, _+_, _/_, _<_, _≤_}
+use Prim.Native.Nat.{ℕ, zero, suc, _+_, _/_, _<_}
 use mathlib.Core.Path.{_≡_, refl, sym, _∙_, ap, ap₂, fun-ext}
 use mathlib.Core.Bool.{Bool, true, false, cond, not, _&&_, _||_, false≢true}
-use mathlib.Core.List.{List, [], _∷_, _++_, map, append-assoc, append-nil}
+use mathlib.Core.List.{List, [], _∷_, _++_, append-assoc, append-nil}
 use native.Mathlib.Omega.{arith}
 use borrow.Author.Tests.{ltb-true}
 use lib.Dec.{eqb, ltb}
 use lib.IntN.{ℤ}
 use lib.ListN.{length, getD, take}
-use Rattle.base.specs.Lists.{all, any, from, upTo, isIn}
+use Rattle.base.specs.Lists.{all, any, upTo, isIn}
 use Rattle.base.proofs.Lists.{both-left, both-right, all-at, all-from}
 use Rattle.base.proofs.Loop.{getD-up, listed}
 use Rattle.base.proofs.Members.{from-at}
@@ -22,14 +22,14 @@ use Rattle.cells.specs.Cells.{first, second, splits, boxOf, boxesAbove, boxAt, 
 use Rattle.cells.specs.Full.{allowed}
 use Rattle.cells.specs.Rows.{pointsOf}
 use Rattle.cells.proofs.Conditions.{Conditions, cell-meets, sound-boxes}
-use Rattle.marks.specs.Marks.{noted, Marked, bothNoted, splitAt, notedFacet, notedAt, facesNoted}
+use Rattle.marks.specs.Marks.{Marked, bothNoted, splitAt, notedFacet, notedAt, facesNoted}
 use Rattle.portions.specs.Tuples.{front, Agree}
 use Rattle.rule.specs.Rule.{goesOn, isLeaf}
 use Rattle.rule.proofs.OneKind.{Flat, flat-hexahedron, flat-prism, flat-pyramid, leaf-goes}
 use Rattle.levels.specs.Levels.{base, lesser, levelTriangles, levelQuads, levelTriples}
 use Rattle.levels.specs.Fits.{comesAfter, fits}
 use Rattle.levels.proofs.Fresh.{take-run}
-use Rattle.levels.proofs.Right.{isRow, Right, right-at, run-same, at-row, row-sizes, vertex-same, row-same, rows-pass}
+use Rattle.levels.proofs.Right.{Right, right-at, run-same, at-row, row-sizes, vertex-same, row-same, rows-pass}
 
 -- ── least form, place by place ──
 

@@ -8,7 +8,7 @@ use native.Mathlib.Omega.{arith}
 use borrow.Author.Tests.{eqb-true}
 use lib.Dec.{eqb}
 use lib.ListN.{getD}
-use Rattle.base.specs.Lists.{all, any, count, keep, isIn}
+use Rattle.base.specs.Lists.{all, any, count, isIn}
 use Rattle.base.proofs.Bools.{or-either, and-left, and-right}
 use Rattle.base.proofs.Lists.{all-at, any-at}
 use Rattle.base.proofs.Members.{all-map}

@@ -1,5 +1,5 @@
 -- Flat tables that are a template's: what the functions say of them is said of the template. Assumes nothing.
-use mathlib.Core.Path.{_≡_, refl, sym, _∙_}
+use mathlib.Core.Path.{_≡_, sym}
 use mathlib.Core.List.{List}
 use Prim.Native.Nat.{ℕ, _/_}
 use lib.IntN.{ℤ}

@@ -1,5 +1,5 @@
 -- `counting::all_of_part` meets its contract. Assumes nothing.
-use mathlib.Core.Path.{sym, _∙_, ap}
+use mathlib.Core.Path.{_∙_, ap}
 use Prim.Native.Nat.{_-_}
 use lib.ListN.{length, getD}
 use lib.Dec.{eqb}

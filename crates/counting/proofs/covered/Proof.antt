@@ -1,6 +1,6 @@
 -- `counting::covered` meets its contract. Assumes nothing.
 use mathlib.Core.Path.{sym, _∙_}
-use Rattle.cells.specs.Cells.{first, second, isDiagonal, covers}
+use Rattle.cells.specs.Cells.{first, second, isDiagonal}
 use borrow.Author.Needs.{needs}
 use Rattle.counting.proofs.Sides.{low-below}
 use Rattle.counting.proofs.covered.Statement.{statement}

@@ -1,5 +1,4 @@
 -- `counting::is_filled_by` meets its contract. Assumes nothing.
-use Rattle.cells.specs.Cells.{fills}
 use Rattle.base.proofs.Bools.{first-fails, second-fails, third-decides}
 use borrow.Author.Needs.{needs}
 use Rattle.counting.proofs.is_filled_by.Statement.{statement}

@@ -1,5 +1,5 @@
 -- `filling::find` meets its contract. Assumes nothing.
-use mathlib.Core.Path.{_≡_, refl, _∙_}
+use mathlib.Core.Path.{_≡_, refl}
 use mathlib.Core.Bool.{true}
 use Prim.Native.Nat.{_/_, _-_, _≤_, _<_}
 use lib.ListN.{length}

@@ -1,8 +1,6 @@
 -- `levels::sound_at` meets its contract. Assumes nothing.
-use mathlib.Core.Path.{_≡_, refl, _∙_, ap}
 use native.Mathlib.Omega.{arith}
-use lib.ListN.{take, drop}
-use Rattle.levels.specs.Levels.{triplesAt, levels}
+use Rattle.levels.specs.Levels.{levels}
 use Rattle.levels.proofs.Entries.{levels-long, triples-cut, triples-there}
 use borrow.Author.Needs.{needs}
 use Rattle.levels.proofs.sound_at.Statement.{statement}

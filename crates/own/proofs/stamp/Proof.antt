@@ -1,13 +1,13 @@
--- `filling::stamp` meets its contract. Assumes nothing.
+-- `own::stamp` meets its contract. Assumes nothing.
 use mathlib.Core.Path.{_≡_}
 use Prim.Native.Nat.{_-_, _≤_}
 use lib.ListN.{length}
 use native.Mathlib.Omega.{arith}
 use borrow.Author.Needs.{needs}
-use Rattle.filling.specs.Next.{Stamped}
-use Rattle.filling.proofs.Nearby.{stamped-start, stamped-next}
-use Rattle.filling.proofs.stamp.Statement.{statement}
-use Rattle.filling.proofs.stamp.Tie as tie
+use Rattle.own.specs.Stamps.{Stamped}
+use Rattle.own.proofs.Stamps.{stamped-start, stamped-next}
+use Rattle.own.proofs.stamp.Statement.{statement}
+use Rattle.own.proofs.stamp.Tie as tie
 
 abbrev Inv-loop : tie.InvT-loop
 Inv-loop c m₀ k₀ m k = (k ≤ length c) × Stamped c k m

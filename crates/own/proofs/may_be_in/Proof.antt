@@ -1,10 +1,10 @@
--- `filling::may_be_in` meets its contract. Assumes nothing.
+-- `own::may_be_in` meets its contract. Assumes nothing.
 use mathlib.Core.Path.{sym, _∙_}
 use borrow.Author.Tests.{not-true, not-false}
 use Rattle.base.proofs.Bools.{and-true}
 use borrow.Author.Needs.{needs}
-use Rattle.filling.proofs.may_be_in.Statement.{statement}
-use Rattle.filling.proofs.may_be_in.Tie as tie
+use Rattle.own.proofs.may_be_in.Statement.{statement}
+use Rattle.own.proofs.may_be_in.Tie as tie
 
 cast-at : tie.Need-cast-at
 cast-at c = search needs

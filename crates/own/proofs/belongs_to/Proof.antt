@@ -1,11 +1,11 @@
--- `filling::belongs_to` meets its contract. Assumes nothing.
+-- `own::belongs_to` meets its contract. Assumes nothing.
 use mathlib.Core.Path.{ap}
 use Rattle.base.proofs.Bools.{and-fails, and-passes}
 use Rattle.cells.specs.Rows.{owns}
 use mathlib.Core.Bool.{not}
 use borrow.Author.Needs.{needs}
-use Rattle.filling.proofs.belongs_to.Statement.{statement}
-use Rattle.filling.proofs.belongs_to.Tie as tie
+use Rattle.own.proofs.belongs_to.Statement.{statement}
+use Rattle.own.proofs.belongs_to.Tie as tie
 
 all-in-requires : tie.Need-all-in-requires
 all-in-requires c κs = search needs

@@ -1,12 +1,12 @@
--- `filling::is_hit` meets its contract. Assumes nothing.
+-- `own::is_hit` meets its contract. Assumes nothing.
 use mathlib.Core.Path.{sym, _∙_}
 use mathlib.Core.Bool.{false≢true}
 use native.Mathlib.Omega.{arith}
 use borrow.Author.Tests.{not-true}
-use Rattle.filling.proofs.Nearby.{no-stamp}
+use Rattle.own.proofs.Stamps.{no-stamp}
 use borrow.Author.Needs.{needs}
-use Rattle.filling.proofs.is_hit.Statement.{statement}
-use Rattle.filling.proofs.is_hit.Tie as tie
+use Rattle.own.proofs.is_hit.Statement.{statement}
+use Rattle.own.proofs.is_hit.Tie as tie
 
 cast-j : tie.Need-cast-j
 cast-j c = search needs

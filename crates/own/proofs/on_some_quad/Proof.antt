@@ -1,4 +1,4 @@
--- `filling::on_some_quad` meets its contract. Assumes nothing.
+-- `own::on_some_quad` meets its contract. Assumes nothing.
 use mathlib.Core.Path.{_≡_, refl, sym, _∙_}
 use Prim.Native.Nat.{_/_, _-_}
 use lib.ListN.{length}
@@ -7,8 +7,8 @@ use Rattle.space.specs.Arrays.{row4}
 use Rattle.templates.specs.Tables.{at}
 use Rattle.base.proofs.Loop.{AnyUp, any-start, any-next, any-found, any-done}
 use native.Mathlib.Omega.{arith}
-use Rattle.filling.proofs.on_some_quad.Statement.{statement}
-use Rattle.filling.proofs.on_some_quad.Tie as tie
+use Rattle.own.proofs.on_some_quad.Statement.{statement}
+use Rattle.own.proofs.on_some_quad.Tie as tie
 
 abbrev Inv-loop : tie.InvT-loop
 Inv-loop labels e c rows n j₀ j = (n ≡ length rows / 4) × AnyUp (λ q. all (λ v. isIn v (at c q)) (row4 labels (e .0))) (row4 rows) n j

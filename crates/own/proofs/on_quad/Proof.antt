@@ -1,8 +1,8 @@
--- `filling::on_quad` meets its contract. Assumes nothing.
+-- `own::on_quad` meets its contract. Assumes nothing.
 use mathlib.Core.Path.{_∙_}
 use borrow.Author.Needs.{needs}
-use Rattle.filling.proofs.on_quad.Statement.{statement}
-use Rattle.filling.proofs.on_quad.Tie as tie
+use Rattle.own.proofs.on_quad.Statement.{statement}
+use Rattle.own.proofs.on_quad.Tie as tie
 
 corners4-requires : tie.Need-corners4-requires
 corners4-requires c κs = search needs
