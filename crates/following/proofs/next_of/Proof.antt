@@ -23,7 +23,7 @@ next-requires : tie.Need-next-requires
 next-requires c κs = search needs
 
 mark-at-requires : tie.Need-mark-at-requires
-mark-at-requires c κs = search needs
+mark-at-requires c κs = c .before .before .before .before .before .before .before .before .before .before .before .before .before .before .pre .1 .1
 
 returns-2 : tie.Need-returns-2
 unfolding cellAt
