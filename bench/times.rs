@@ -109,8 +109,9 @@ fn growth(rows: &[Row], ours: &str, other: &str) {
 fn targets(rows: &[Row], ours: &str, other: &str) -> bool {
     let worst = rows.iter().max_by(|a, b| a.ratio().total_cmp(&b.ratio()));
     let each = |name: &str| rows.iter().find(|r| r.name == name).map(|r| r.took[0] / r.cells);
-    let (Some(worst), Some(hub), Some(grid)) = (worst, each("hub-511"), each("kuhn-jittered-7")) else {
-        stop("meshes are missing")
+    let (worst, hub, grid) = match (worst, each("hub-511"), each("kuhn-jittered-7")) {
+        (Some(worst), Some(hub), Some(grid)) => (worst, hub, grid),
+        _ => stop("meshes are missing"),
     };
     let what = format!("the most {} / {}, {}", ours, other, worst.name);
     let met = target(&what, worst.ratio(), 1.0);
