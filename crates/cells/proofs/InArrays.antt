@@ -9,18 +9,15 @@ use lib.ListN.{length, getD}
 use Rattle.base.specs.Lists.{all, keep, from, upTo}
 use Rattle.base.proofs.Lists.{keep-map}
 use Rattle.base.proofs.Loop.{length-up}
-use Rattle.space.specs.Mesh.{Mesh, Tetrahedron, holds, together}
+use Rattle.space.specs.Mesh.{Mesh, Tetrahedron, holds}
 use Rattle.space.specs.Arrays.{pointAt, row4, tetAt, meshOf}
-use Rattle.around.proofs.Around.{any-map, all-map, count-map}
+use Rattle.around.specs.Index.{togetherIn}
+use Rattle.around.proofs.Around.{together-in, all-map, count-map}
 use Rattle.templates.specs.Tables.{Template, at}
 use Rattle.cells.specs.Cells.{areCorners, allJoined, allFaces, boxesAbove, boxOf, boxAt, sidesOf, fills, allAgree, isTuple, hasEdges, isFacet, hasFaces, isSound, belongs, tetsOf, numbersFrom, numbersOf, sides, isFilledBy, isOnePart}
-use Rattle.cells.specs.Rows.{pointsOf, togetherIn, facetIn, owns, ownNumbers}
+use Rattle.cells.specs.Rows.{pointsOf, facetIn, owns, ownNumbers}
 
 module _ (zs : List ℤ) (ls ps : List ℕ) where
-  pub together-in : (vs : List ℕ) → together (meshOf zs ls ps) vs ≡ togetherIn ls vs
-  unfolding together
-  together-in vs = any-map (tetAt ls ps) (holds vs) (upTo (length ls / 4))
-
   module _ (t : Template) (c : List ℕ) where
     abbrev m : Mesh
     m = meshOf zs ls ps
@@ -34,11 +31,11 @@ module _ (zs : List ℤ) (ls ps : List ℕ) where
 
     pub edges-in : hasEdges (meshOf zs ls ps) t c ≡ allJoined (togetherIn ls) c (t .edges)
     unfolding hasEdges
-    edges-in = ap (λ j. allJoined j c (t .edges)) (fun-ext together-in)
+    edges-in = ap (λ j. allJoined j c (t .edges)) (fun-ext (together-in zs ls ps))
 
     pub faces-in : hasFaces (meshOf zs ls ps) t c ≡ allFaces (facetIn ls c) (t .triangles) (t .quads)
     unfolding hasFaces isFacet
-    faces-in = ap (λ (j : List ℕ → Bool). allFaces (λ ks. j (at c ks)) (t .triangles) (t .quads)) (fun-ext together-in)
+    faces-in = ap (λ (j : List ℕ → Bool). allFaces (λ ks. j (at c ks)) (t .triangles) (t .quads)) (fun-ext (together-in zs ls ps))
 
     pub sound-in : isSound (meshOf zs ls ps) t c ≡ boxesAbove (boxOf (pointsOf zs)) c (t .triples)
     unfolding isSound boxAt

@@ -6,10 +6,10 @@ use mathlib.Core.Bool.{Bool}
 use mathlib.Core.List.{List, [], _∷_, map}
 use lib.IntN.{ℤ}
 use lib.ListN.{length, getD}
-use Rattle.base.specs.Lists.{any, keep, upTo}
+use Rattle.base.specs.Lists.{keep, upTo}
 use Rattle.space.specs.declared.Point.{Point}
 use Rattle.space.specs.Arrays.{pointAt, row4}
-use Rattle.around.specs.Index.{hasAll}
+use Rattle.around.specs.Index.{togetherIn}
 use Rattle.templates.specs.Tables.{at}
 use Rattle.cells.specs.Cells.{isOwn}
 
@@ -27,10 +27,6 @@ fours xs = map (row4 xs) (upTo (length xs / 4))
 -- the points of these coordinates
 abbrev pub pointsOf : List ℤ → List Point
 pointsOf zs = map (pointAt zs) (upTo (length zs / 3))
-
--- some tetrahedron of these labels has all these vertices
-abbrev pub togetherIn : List ℕ → List ℕ → Bool
-togetherIn ls vs = any (hasAll ls vs) (upTo (length ls / 4))
 
 -- some tetrahedron has the corners ks of c
 abbrev pub facetIn : List ℕ → List ℕ → List ℕ → Bool

@@ -12,9 +12,9 @@ use lib.Seq.{drop-at, take-at, getD-at, getD-drop, getD-take, length-take-le}
 use Rattle.base.specs.Lists.{spread, from, upTo}
 use Rattle.base.proofs.Runs.{from-add, spread-append, map-append, place-of, kept-rises}
 use Rattle.base.proofs.Members.{keep-has, from-has}
-use Rattle.space.specs.Mesh.{Mesh, together}
+use Rattle.around.specs.Index.{togetherIn}
 use Rattle.neighbours.specs.declared.Row.{Row}
-use Rattle.neighbours.specs.Table.{rowOf, rowsOf, offsets, tableBy, neighboursOf, tableOf}
+use Rattle.neighbours.specs.Table.{rowOf, rowsOf, offsets, tableBy, neighboursIn, tableIn}
 use Rattle.matrix.specs.Matrix.{nextTo}
 use Rattle.neighbours.specs.Reading.{Tabled, RowOf, entriesOf}
 use Rattle.neighbours.proofs.Rows.{offs, offs-all, length-offs, rows-more, rows-up, rows-le, length-table}
@@ -65,22 +65,22 @@ module _ (row : ℕ → List ℕ) (n : ℕ) (rest : List ℕ) where
       sym (getD-drop (n + 1 + length (rowsOf row u)) table i 0) ∙ ap (λ l. getD l i 0) (d .1) ∙ List·getD-append (row u) (d .0) 0 i k
 
 -- a slice that begins with the table
-module _ {m : Mesh} {n : ℕ} {xs : List ℕ} (d : Tabled m n xs) where
-  split : xs ≡ tableBy (neighboursOf m n) n ++ d .rest
-  unfolding tableOf
+module _ {ls : List ℕ} {n : ℕ} {xs : List ℕ} (d : Tabled ls n xs) where
+  split : xs ≡ tableBy (neighboursIn ls n) n ++ d .rest
+  unfolding tableIn
   split = d .is
 
-  pub long : n + 1 + length (rowsOf (neighboursOf m n) n) ≤ length xs
+  pub long : n + 1 + length (rowsOf (neighboursIn ls n) n) ≤ length xs
   long =
-      omega (arith, ap length split, length-append (tableBy (neighboursOf m n) n) (d .rest), length-table (neighboursOf m n) n)
+      omega (arith, ap length split, length-append (tableBy (neighboursIn ls n) n) (d .rest), length-table (neighboursIn ls n) n)
 
-  pub starts : (u : ℕ) → u ≤ n → getD xs u 0 ≡ length (rowsOf (neighboursOf m n) u)
-  starts u h = ap (λ l. getD l u 0) split ∙ offset-at (neighboursOf m n) n (d .rest) u h
+  pub starts : (u : ℕ) → u ≤ n → getD xs u 0 ≡ length (rowsOf (neighboursIn ls n) u)
+  starts u h = ap (λ l. getD l u 0) split ∙ offset-at (neighboursIn ls n) n (d .rest) u h
 
   -- the row between two offsets
-  pub row-between : (v s e : ℕ) → v < n → s ≡ getD xs v 0 → e ≡ getD xs (v + 1) 0 → RowOf m n xs v (record { from = n + 1 + s; size = e - s })
+  pub row-between : (v s e : ℕ) → v < n → s ≡ getD xs v 0 → e ≡ getD xs (v + 1) 0 → RowOf ls n xs v (record { from = n + 1 + s; size = e - s })
   row-between v s e h p q =
-      let row = neighboursOf m n in
+      let row = neighboursIn ls n in
       let a : s ≡ length (rowsOf row v) = p ∙ starts v (omega arith) in
       let b : e ≡ length (rowsOf row (v + 1)) = q ∙ starts (v + 1) (omega arith) in
       let z : e - s ≡ length (row v) = omega (arith, rows-up row v) in
@@ -94,28 +94,28 @@ module _ {m : Mesh} {n : ℕ} {xs : List ℕ} (d : Tabled m n xs) where
   -- the offsets rise
   pub offsets-rise : (v : ℕ) → v < n → getD xs v 0 ≤ getD xs (v + 1) 0
   offsets-rise v h =
-      omega (arith, starts v (omega arith), starts (v + 1) (omega arith), rows-up (neighboursOf m n) v)
+      omega (arith, starts v (omega arith), starts (v + 1) (omega arith), rows-up (neighboursIn ls n) v)
 
 -- the row of u: it rises, and every other vertex below n that stands with u in a tetrahedron is in it
-module _ (m : Mesh) (n u : ℕ) where
-  pub row-rises : (i j : ℕ) → i < j → j < length (neighboursOf m n u) → getD (neighboursOf m n u) i 0 < getD (neighboursOf m n u) j 0
-  unfolding neighboursOf rowOf
-  row-rises i j = kept-rises (nextTo (λ u v. together m (u ∷ v ∷ [])) u) 0 n i j
+module _ (ls : List ℕ) (n u : ℕ) where
+  pub row-rises : (i j : ℕ) → i < j → j < length (neighboursIn ls n u) → getD (neighboursIn ls n u) i 0 < getD (neighboursIn ls n u) j 0
+  unfolding neighboursIn rowOf
+  row-rises i j = kept-rises (nextTo (λ u v. togetherIn ls (u ∷ v ∷ [])) u) 0 n i j
 
-  pub row-has : (v : ℕ) → v < n → eqb u v ≡ false → together m (u ∷ v ∷ []) ≡ true → (i : ℕ) × (i < length (neighboursOf m n u)) × (getD (neighboursOf m n u) i 0 ≡ v)
-  unfolding neighboursOf rowOf
+  pub row-has : (v : ℕ) → v < n → eqb u v ≡ false → togetherIn ls (u ∷ v ∷ []) ≡ true → (i : ℕ) × (i < length (neighboursIn ls n u)) × (getD (neighboursIn ls n u) i 0 ≡ v)
+  unfolding neighboursIn rowOf
   row-has v l e t =
-      place-of (neighboursOf m n u)
-      (keep-has (nextTo (λ u v. together m (u ∷ v ∷ [])) u) (upTo n) (from-has 0 n v (omega arith) (omega arith)) (rw (e, t)))
+      place-of (neighboursIn ls n u)
+      (keep-has (nextTo (λ u v. togetherIn ls (u ∷ v ∷ [])) u) (upTo n) (from-has 0 n v (omega arith) (omega arith)) (rw (e, t)))
 
 -- the same of the entries that stand in the table
-module _ {m : Mesh} {n : ℕ} {table : List ℕ} {u : ℕ} {r : Row} (w : RowOf m n table u r) where
+module _ {ls : List ℕ} {n : ℕ} {table : List ℕ} {u : ℕ} {r : Row} (w : RowOf ls n table u r) where
   size : length (entriesOf table r) ≡ r .size
   size =
       length-take-le (r .from + r .size - r .from) (drop (r .from) table) (omega (arith, w .inside, length-drop (r .from) table))
       ∙ omega arith
 
-  entry : u < n → (i : ℕ) → i < length (neighboursOf m n u) → getD (entriesOf table r) i 0 ≡ getD (neighboursOf m n u) i 0
+  entry : u < n → (i : ℕ) → i < length (neighboursIn ls n u) → getD (entriesOf table r) i 0 ≡ getD (neighboursIn ls n u) i 0
   entry b i e =
       getD-take (r .from + r .size - r .from) (drop (r .from) table) i 0 (omega (arith, w .whole b))
       ∙ getD-drop (r .from) table i 0 ∙ w .entries b i (omega (arith, w .whole b))
@@ -123,10 +123,10 @@ module _ {m : Mesh} {n : ℕ} {table : List ℕ} {u : ℕ} {r : Row} (w : RowOf 
   pub entries-rise : (i j : ℕ) → i < j → j < length (entriesOf table r) → getD (entriesOf table r) i 0 < getD (entriesOf table r) j 0
   entries-rise i j a b = elim (decLt u n) [
     | yes l ↦
-        let z = row-rises m n u i j a (omega (arith, b, size, w .whole l)) in
+        let z = row-rises ls n u i j a (omega (arith, b, size, w .whole l)) in
         omega (arith, z, entry l i (omega (arith, a, b, size, w .whole l)), entry l j (omega (arith, b, size, w .whole l)))
     | no l ↦ absurd (let o : ⊥ = omega (arith, b, size, w .empty (omega arith)) in o)
   ]
 
-  pub entries-have : {v : ℕ} → u < n → v < n → eqb u v ≡ false → together m (u ∷ v ∷ []) ≡ true → (i : ℕ) × (i < length (entriesOf table r)) × (getD (entriesOf table r) i 0 ≡ v)
-  entries-have {v} l h z t = let f = row-has m n u v h z t in (f .0, omega (arith, f .1, size, w .whole l), entry l (f .0) (f .1) ∙ f .2)
+  pub entries-have : {v : ℕ} → u < n → v < n → eqb u v ≡ false → togetherIn ls (u ∷ v ∷ []) ≡ true → (i : ℕ) × (i < length (entriesOf table r)) × (getD (entriesOf table r) i 0 ≡ v)
+  entries-have {v} l h z t = let f = row-has ls n u v h z t in (f .0, omega (arith, f .1, size, w .whole l), entry l (f .0) (f .1) ∙ f .2)

@@ -1,4 +1,4 @@
--- The neighbours by labels are those of the decoded mesh, whatever its points and parts. Assumes nothing.
+-- The neighbours by the matrix, by the labels and of a mesh in arrays are the same. Assumes nothing.
 use mathlib.Core.Path.{_≡_, refl, sym, _∙_, ap, fun-ext}
 use mathlib.Core.Bool.{Bool, true, false, _&&_, _||_, or-false, and-true, and-comm}
 use mathlib.Core.List.{List, [], _∷_, _++_, map}
@@ -8,15 +8,12 @@ use lib.Dec.{eqb}
 use lib.IntN.{ℤ}
 use lib.ListN.{length, getD}
 use Rattle.base.specs.Lists.{all, any, isIn, upTo}
-use Rattle.base.proofs.Runs.{any-map, any-snoc, upTo-more}
-use Rattle.space.specs.Mesh.{together, holds}
-use Rattle.space.specs.Arrays.{row4, tetAt, meshOf}
-use Rattle.neighbours.specs.Table.{rowOf, neighboursOf, tableBy, tableOf}
+use Rattle.base.proofs.Runs.{any-snoc, upTo-more}
+use Rattle.space.specs.Arrays.{row4, meshOf}
+use Rattle.around.specs.Index.{hasAll}
+use Rattle.around.proofs.Around.{together-in}
+use Rattle.neighbours.specs.Table.{rowOf, tableBy, neighboursOf, tableOf, neighboursIn, tableIn}
 use Rattle.matrix.specs.Matrix.{joinedBy, ofTet, isOne}
-
--- tetrahedron i has these vertices
-abbrev hasAll : List ℕ → List ℕ → ℕ → Bool
-hasAll l vs i = all (λ x. isIn x (row4 l i)) vs
 
 four : (a b c d : Bool) → (a || (b || (c || (d || false)))) ≡ (((a || b) || c) || d)
 four true b c d = refl
@@ -41,16 +38,17 @@ near-any l (suc t) u v =
     ∙ sym (any-snoc (hasAll l (u ∷ v ∷ [])) (upTo t) t)
     ∙ ap (any (hasAll l (u ∷ v ∷ []))) (sym (upTo-more t) ∙ ap upTo (add-one t))
 
-module _ (zs : List ℤ) (l ps : List ℕ) where
-  pub near-together : (u v : ℕ) → joinedBy l (length l / 4) u v ≡ together (meshOf zs l ps) (u ∷ v ∷ [])
-  unfolding together
-  near-together u v =
-      near-any l (length l / 4) u v ∙ sym (any-map (holds (u ∷ v ∷ [])) (tetAt l ps) (upTo (length l / 4)))
+module _ (l : List ℕ) (n : ℕ) where
+  pub near-row : rowOf (joinedBy l (length l / 4)) n ≡ neighboursIn l n
+  unfolding neighboursIn
+  near-row = ap (λ f. rowOf f n) (fun-ext (λ u. fun-ext (near-any l (length l / 4) u)))
 
-  pub near-row : (n : ℕ) → rowOf (joinedBy l (length l / 4)) n ≡ neighboursOf (meshOf zs l ps) n
-  unfolding neighboursOf
-  near-row n = ap (λ f. rowOf f n) (fun-ext (λ u. fun-ext (near-together u)))
+  pub near-table : tableBy (rowOf (joinedBy l (length l / 4)) n) n ≡ tableIn l n
+  unfolding tableIn
+  near-table = ap (λ r. tableBy r n) near-row
 
-  pub near-table : (n : ℕ) → tableBy (rowOf (joinedBy l (length l / 4)) n) n ≡ tableOf (meshOf zs l ps) n
-  unfolding tableOf
-  near-table n = ap (λ r. tableBy r n) (near-row n)
+  -- the table of a mesh in arrays is that of its tetrahedra's vertex numbers
+  pub table-in : (zs : List ℤ) (ps : List ℕ) → tableOf (meshOf zs l ps) n ≡ tableIn l n
+  unfolding tableOf tableIn neighboursOf neighboursIn
+  table-in zs ps =
+      ap (λ f. tableBy (rowOf f n) n) (fun-ext (λ u. fun-ext (λ v. together-in zs l ps (u ∷ v ∷ []))))

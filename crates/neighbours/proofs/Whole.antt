@@ -10,32 +10,31 @@ use lib.IntN.{ℤ}
 use lib.ListN.{length, take, drop}
 use Rattle.base.specs.Laid.{Laid}
 use Rattle.base.proofs.Lay.{lay-front}
-use Rattle.space.specs.Mesh.{Mesh}
 use Rattle.space.specs.Arrays.{meshOf}
 use Rattle.neighbours.specs.declared.Filled.{Filled}
 use Rattle.neighbours.specs.declared.Filled.the-variants.{Entries, Short}
-use Rattle.neighbours.specs.Table.{rowOf, rowsOf, offsets, tableBy, tableOf, filledBy, laidBy, filledOf, tableAfter}
+use Rattle.neighbours.specs.Table.{rowOf, rowsOf, offsets, tableBy, tableOf, tableIn, filledBy, laidBy}
 use Rattle.neighbours.specs.Grown.{Grown, Few}
 use Rattle.matrix.specs.Matrix.{joinedBy, isJoined, Empty, Joins}
 use Rattle.neighbours.proofs.Rows.{row-same, length-table}
 use Rattle.neighbours.proofs.Growing.{grown-all}
 use Rattle.neighbours.proofs.Law.{few}
-use Rattle.neighbours.proofs.Tets.{near-table}
+use Rattle.neighbours.proofs.Tets.{near-table, table-in}
 
 -- what `fill_by` knows once the matrix is made
 module _ (l : List ℕ) (n : ℕ) {m : List ℕ} (small : n ≤ 512) {m₀ : List ℕ} (z : Empty m₀) (a : Joins m₀ m (joinedBy l (length l / 4))) where
   rows : rowOf (isJoined m) n ≡ rowOf (joinedBy l (length l / 4)) n
   rows = row-same (isJoined m) (joinedBy l (length l / 4)) n small (λ x y h. a .at x y h ∙ ap (λ t. t || joinedBy l (length l / 4) x y) (z .none x y))
 
-  table-same : tableBy (rowOf (isJoined m) n) n ≡ tableOf (meshOf [] l []) n
-  table-same = ap (λ r. tableBy r n) rows ∙ near-table [] l [] n
+  table-same : tableBy (rowOf (isJoined m) n) n ≡ tableIn l n
+  table-same = ap (λ r. tableBy r n) rows ∙ near-table l n
 
-  pub size-grown : {e : ℕ} {w₀ w : List ℕ} → Grown 0 e (rowsOf (rowOf (isJoined m) n) n) w₀ w → n + 1 + e ≡ length (tableOf (meshOf [] l []) n)
+  pub size-grown : {e : ℕ} {w₀ w : List ℕ} → Grown 0 e (rowsOf (rowOf (isJoined m) n) n) w₀ w → n + 1 + e ≡ length (tableIn l n)
   size-grown h = omega (arith, h .ends, length-table (rowOf (isJoined m) n) n, ap length table-same)
 
   -- what the two rooms hold is the table
   pub table-grown : {e : ℕ} {s₀ s w₀ w : List ℕ} → Grown 0 (n + 1) (offsets (rowOf (isJoined m) n) n) s₀ s → Grown 0 e (rowsOf (rowOf (isJoined m) n) n) w₀ w
-      → take (n + 1) s ++ take e w ≡ tableOf (meshOf [] l []) n
+      → take (n + 1) s ++ take e w ≡ tableIn l n
   unfolding tableBy
   table-grown g h = rw (grown-all g, grown-all h) table-same
 
@@ -57,22 +56,7 @@ module _ (xs old : List ℕ) where
   pub full-content : {new : List ℕ} → Laid 0 xs old new → new ≡ laidBy xs old
   full-content d = rw (le-ltb (length old) (length xs) (omega (arith, d .room))) (d .content ∙ lay-front xs old)
 
--- what holds of a slice for xs holds for the table that xs is
-module _ (m : Mesh) (n : ℕ) {xs : List ℕ} (e : xs ≡ tableOf m n) (old : List ℕ) where
-  pub answer-same : filledBy xs (length old) ≡ filledOf m n (length old)
-  unfolding filledOf
-  answer-same = rw e
-
-  pub content-same : (b : Bool) → cond b (laidBy xs old) old ≡ cond b (tableAfter m n old) old
-  unfolding tableAfter
-  content-same b = rw e
-
-module _ (zs : List ℤ) (l ps : List ℕ) where
-  -- the table that the labels say is that of the whole mesh
-  pub table-bare : (n : ℕ) → tableOf (meshOf [] l []) n ≡ tableOf (meshOf zs l ps) n
-  table-bare n = sym (near-table [] l [] n) ∙ near-table zs l ps n
-
-  -- the slice that always suffices
-  pub enough : (n : ℕ) → n ≤ 512 → length l ≤ 8192 → length (tableOf (meshOf zs l ps) n) ≤ 25089
-  enough n h k =
-      rw (sym (near-table zs l ps n)) (omega (arith, length-table (rowOf (joinedBy l (length l / 4)) n) n, few l n k n))
+-- the slice that always suffices
+pub enough : (zs : List ℤ) (l ps : List ℕ) (n : ℕ) → n ≤ 512 → length l ≤ 8192 → length (tableOf (meshOf zs l ps) n) ≤ 25089
+enough zs l ps n h k =
+    rw (table-in l n zs ps, sym (near-table l n)) (omega (arith, length-table (rowOf (joinedBy l (length l / 4)) n) n, few l n k n))

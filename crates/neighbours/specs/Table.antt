@@ -7,6 +7,7 @@ use lib.Dec.{eqb, ltb}
 use lib.ListN.{length, drop}
 use Rattle.base.specs.Lists.{keep, spread, upTo}
 use Rattle.space.specs.Mesh.{Mesh, together}
+use Rattle.around.specs.Index.{togetherIn}
 use Rattle.neighbours.specs.declared.Filled.{Filled}
 use Rattle.neighbours.specs.declared.Filled.the-variants.{Entries, Short}
 
@@ -33,17 +34,18 @@ filledBy xs room = cond (ltb room (length xs)) Short (Entries (length xs))
 abbrev pub laidBy : List ℕ → List ℕ → List ℕ
 laidBy xs old = cond (ltb (length old) (length xs)) old (xs ++ drop (length xs) old)
 
+-- the neighbours of u, rising: other vertices, below n, that stand with it in a tetrahedron; and the neighbour table of n vertices
 module _ (m : Mesh) (n : ℕ) where
-  -- the neighbours of u, rising: other vertices, below n, that stand with it in a tetrahedron
   unfoldable pub neighboursOf : ℕ → List ℕ
   neighboursOf = rowOf (λ u v. together m (u ∷ v ∷ [])) n
 
-  -- the neighbour table of n vertices
   unfoldable pub tableOf : List ℕ
   tableOf = tableBy neighboursOf n
 
-  unfoldable pub filledOf : ℕ → Filled
-  filledOf room = filledBy tableOf room
+-- the same by the vertex numbers of the tetrahedra
+module _ (ls : List ℕ) (n : ℕ) where
+  unfoldable pub neighboursIn : ℕ → List ℕ
+  neighboursIn = rowOf (λ u v. togetherIn ls (u ∷ v ∷ [])) n
 
-  unfoldable pub tableAfter : List ℕ → List ℕ
-  tableAfter old = laidBy tableOf old
+  unfoldable pub tableIn : List ℕ
+  tableIn = tableBy neighboursIn n

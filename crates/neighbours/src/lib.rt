@@ -11,7 +11,7 @@ ghost use lib.ListN.{length, getD};
 ghost use Rattle.base.specs.Laid.{Laid};
 ghost use Rattle.space.specs.Arrays.{meshOf};
 ghost use Rattle.around.specs.Index.{Labelled};
-ghost use Rattle.neighbours.specs.Table.{rowOf, rowsOf, offsets, filledBy, laidBy, filledOf, tableAfter};
+ghost use Rattle.neighbours.specs.Table.{rowOf, rowsOf, offsets, filledBy, laidBy, tableIn};
 ghost use Rattle.neighbours.specs.Grown.{Grown, partOf, Few};
 ghost use Rattle.neighbours.specs.Reading.{Tabled, RowOf};
 ghost use Rattle.matrix.specs.Matrix.{isJoined, Empty};
@@ -146,8 +146,8 @@ fn fill_by(
 ) -> Filled
     requires { ⌜ (n ≤ 512) × (Labelled (now labels) n × Empty (now m)) ⌝ }
     requires { ⌜ (n < length (now starts)) × (24576 < length (now rows)) ⌝ }
-    ensures answer { λ r. ⌜ r ≡ filledOf (meshOf [] (now (labels .entry)) []) n (length (now (table .entry))) ⌝ }
-    ensures content { λ r. ⌜ now (table .exit) ≡ cond wanted (tableAfter (meshOf [] (now (labels .entry)) []) n (now (table .entry))) (now (table .entry)) ⌝ }
+    ensures answer { λ r. ⌜ r ≡ filledBy (tableIn (now (labels .entry)) n) (length (now (table .entry))) ⌝ }
+    ensures content { λ r. ⌜ now (table .exit) ≡ cond wanted (laidBy (tableIn (now (labels .entry)) n) (now (table .entry))) (now (table .entry)) ⌝ }
 {
     join_all(m, labels);
     let e = put_rows(m, n, starts, rows);
@@ -158,8 +158,8 @@ fn fill_by(
 // It is made in local room, since the slice must stay as it is where it is too short. A row's writing needs one entry more than it fills.
 pub fn fill_if(labels: &[u16], n: usize, wanted: bool, table: &mut [u16]) -> Filled
     requires { ⌜ (n ≤ 512) × Labelled (now labels) n ⌝ }
-    ensures answer { λ r. ⌜ r ≡ filledOf (meshOf [] (now (labels .entry)) []) n (length (now (table .entry))) ⌝ }
-    ensures content { λ r. ⌜ now (table .exit) ≡ cond wanted (tableAfter (meshOf [] (now (labels .entry)) []) n (now (table .entry))) (now (table .entry)) ⌝ }
+    ensures answer { λ r. ⌜ r ≡ filledBy (tableIn (now (labels .entry)) n) (length (now (table .entry))) ⌝ }
+    ensures content { λ r. ⌜ now (table .exit) ≡ cond wanted (laidBy (tableIn (now (labels .entry)) n) (now (table .entry))) (now (table .entry)) ⌝ }
 {
     let mut m = [0u8; 262144];
     let mut starts = [0u16; 513];
@@ -171,8 +171,8 @@ pub fn fill_if(labels: &[u16], n: usize, wanted: bool, table: &mut [u16]) -> Fil
 
 // The row of a vertex: its neighbours, rising. It is empty where there is no such vertex.
 pub fn row_of(labels: &[u16], n: usize, table: &[u16], v: Vertex) -> Row
-    requires { ⌜ Tabled (meshOf [] (now labels) []) n (now table) ⌝ }
-    ensures { λ r. ⌜ RowOf (meshOf [] (now (labels .entry)) []) n (now (table .entry)) (v .0) r ⌝ }
+    requires { ⌜ Tabled (now labels) n (now table) ⌝ }
+    ensures { λ r. ⌜ RowOf (now (labels .entry)) n (now (table .entry)) (v .0) r ⌝ }
 {
     let u = v.0 as usize;
     if u < n {

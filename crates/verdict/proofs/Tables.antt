@@ -7,7 +7,8 @@ use lib.ListN.{length}
 use Rattle.space.specs.Arrays.{meshOf}
 use Rattle.templates.specs.Tables.{Template}
 use Rattle.cells.specs.Cells.{areCorners, allJoined, allFaces, boxesAbove, boxOf, isTuple, hasEdges, hasFaces, isSound, isFilled, isOnePart, numbersOf}
-use Rattle.cells.specs.Rows.{threes, fours, pointsOf, togetherIn, facetIn, ownNumbers}
+use Rattle.cells.specs.Rows.{threes, fours, pointsOf, facetIn, ownNumbers}
+use Rattle.around.specs.Index.{togetherIn}
 use Rattle.cells.proofs.InArrays.{tuple-in, edges-in, faces-in, sound-in, numbers-in, filled-in, part-in}
 use Rattle.verdict.specs.Judged.{TablesOf, lastOf, lastWith, lastFailing}
 

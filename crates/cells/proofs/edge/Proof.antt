@@ -1,8 +1,6 @@
 -- `cells::edge` meets its contract. Assumes nothing.
 use mathlib.Core.Path.{_∙_}
-use mathlib.Core.List.{[]}
 use borrow.Author.Needs.{needs}
-use Rattle.cells.proofs.InArrays.{together-in}
 use Rattle.cells.proofs.edge.Statement.{statement}
 use Rattle.cells.proofs.edge.Tie as tie
 
@@ -19,7 +17,7 @@ together2-requires : tie.Need-together2-requires
 together2-requires c κs = search needs
 
 returns : tie.Need-returns
-returns c = c .together2 .ensures ∙ together-in [] (c .before .before .before .before .before .before .before .args .labels .now) [] _ ∙ rw (c .before .corners2 .ensures)
+returns c = c .together2 .ensures ∙ rw (c .before .corners2 .ensures)
 
 pub edge-spec : {M : Type 1} → statement M
 edge-spec =

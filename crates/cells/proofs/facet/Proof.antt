@@ -1,8 +1,6 @@
 -- `cells::facet` meets its contract. Assumes nothing.
 use mathlib.Core.Path.{_∙_}
-use mathlib.Core.List.{[]}
 use borrow.Author.Needs.{needs}
-use Rattle.cells.proofs.InArrays.{together-in}
 use Rattle.cells.proofs.facet.Statement.{statement}
 use Rattle.cells.proofs.facet.Tie as tie
 
@@ -22,7 +20,7 @@ together3-requires : tie.Need-together3-requires
 together3-requires c κs = search needs
 
 returns : tie.Need-returns
-returns c = c .together3 .ensures ∙ together-in [] (c .before .before .before .before .before .before .before .args .labels .now) [] _ ∙ rw (c .before .corners3 .ensures)
+returns c = c .together3 .ensures ∙ rw (c .before .corners3 .ensures)
 
 pub facet-spec : {M : Type 1} → statement M
 facet-spec =

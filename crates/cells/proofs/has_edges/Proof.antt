@@ -5,7 +5,7 @@ use lib.ListN.{length}
 use borrow.Author.Tests.{not-true, not-false}
 use Rattle.templates.specs.Tables.{at}
 use Rattle.templates.specs.Flat.{pairAt}
-use Rattle.cells.specs.Rows.{togetherIn}
+use Rattle.around.specs.Index.{togetherIn}
 use Rattle.base.proofs.Loop.{AllUp, all-start, all-next, all-fails, all-done}
 use native.Mathlib.Omega.{arith}
 use Rattle.cells.proofs.has_edges.Statement.{statement}

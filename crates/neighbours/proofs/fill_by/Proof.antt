@@ -1,12 +1,13 @@
 -- `fill_by` meets its contract: what the two rooms hold is the table. Assumes nothing.
 use mathlib.Core.Path.{_≡_, _∙_, ap}
+use mathlib.Core.Bool.{cond}
 use mathlib.Core.List.{List, [], _++_}
 use Prim.Native.Nat.{ℕ, _+_, _<_, _≤_}
 use native.Mathlib.Omega.{arith}
 use lib.ListN.{length, take}
-use Rattle.space.specs.Arrays.{meshOf}
+use Rattle.neighbours.specs.Table.{filledBy, laidBy}
 use Rattle.neighbours.proofs.Growing.{grown-size, grown-fits}
-use Rattle.neighbours.proofs.Whole.{table-grown, rows-short, answer-same, content-same}
+use Rattle.neighbours.proofs.Whole.{table-grown, rows-short}
 use borrow.Author.Needs.{needs}
 use Rattle.neighbours.proofs.fill_by.Statement.{statement}
 use Rattle.neighbours.proofs.fill_by.Tie as tie
@@ -55,8 +56,8 @@ returns c =
     let s = c .before .before .before .before .before .before .before .before .before .before .before .before .before .before .before .before .before .before .before .before in
     let p = c .before .before .before .before .before .before .before .before .before .before .put-rows .ensures in
     let e = table-grown (s .args .labels .now) (s .args .n) (s .pre .0 .0) (s .pre .0 .1 .1) (c .before .before .before .before .before .before .before .before .before .before .before .before .before .before .join-all .ensures) (p .0) (p .1) in
-    let m = meshOf [] (s .args .labels .now) [] in
-    (c .before .before .put-if .ensures .0 ∙ answer-same m (s .args .n) e (s .args .table .now), c .before .before .put-if .ensures .1 ∙ content-same m (s .args .n) e (s .args .table .now) (s .args .wanted))
+    let a = s .args in
+    (c .before .before .put-if .ensures .0 ∙ ap (λ xs. filledBy xs (length (a .table .now))) e, c .before .before .put-if .ensures .1 ∙ ap (λ xs. cond (a .wanted) (laidBy xs (a .table .now)) (a .table .now)) e)
 
 pub fill-by-spec : {M : Type 1} → statement M
 fill-by-spec =
