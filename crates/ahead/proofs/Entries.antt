@@ -11,11 +11,10 @@ use lib.Dec.{eqb, ltb}
 use lib.ListN.{length, getD}
 use Rattle.base.specs.Lists.{all, upTo, isIn}
 use Rattle.base.proofs.Lists.{both-left, both-right, all-at, any-at}
-use Rattle.base.proofs.Members.{map-at, from-at}
+use Rattle.base.proofs.Members.{from-at}
 use Rattle.templates.proofs.Tests.{any-from}
-use Rattle.space.specs.Mesh.{Mesh, Tetrahedron, holds, together}
-use Rattle.space.specs.Arrays.{row4, tetAt, meshOf}
-use Rattle.around.specs.Index.{Labelled}
+use Rattle.space.specs.Arrays.{row4}
+use Rattle.around.specs.Index.{Labelled, hasAll, togetherIn}
 use Rattle.neighbours.specs.declared.Row.{Row}
 use Rattle.neighbours.specs.Reading.{RowOf, entriesOf}
 use Rattle.neighbours.proofs.Reading.{entries-have}
@@ -34,11 +33,10 @@ module _ {ls : List ℕ} {n : ℕ} (w : Labelled ls n) where
       rw (f (4 * i) (omega arith), f (4 * i + 1) (omega arith), f (4 * i + 2) (omega arith), f (4 * i + 3) (omega arith))
 
   -- a vertex of a tetrahedron is below n
-  held-below : (e : Tetrahedron) → List·Memᴰ e (meshOf [] ls [] .tets) → (v : ℕ) → isIn v (e .vertices) ≡ true → v < n
-  held-below e m v h =
-      let i = map-at (tetAt ls []) (upTo (length ls / 4)) m in
-      let x = any-at (eqb v) (row4 ls (i .0)) (subst (λ t. isIn v (t .vertices) ≡ true) (i .2) h) in
-      let l = ltb-true (x .0) n (all-at (λ y. ltb y n) (row4 ls (i .0)) (all-below (i .0) (omega (arith, from-at 0 (length ls / 4) (i .1) .1))) (x .1)) in
+  held-below : (i : ℕ) → List·Memᴰ i (upTo (length ls / 4)) → (v : ℕ) → isIn v (row4 ls i) ≡ true → v < n
+  held-below i m v h =
+      let x = any-at (eqb v) (row4 ls i) h in
+      let l = ltb-true (x .0) n (all-at (λ y. ltb y n) (row4 ls i) (all-below i (omega (arith, from-at 0 (length ls / 4) m .1))) (x .1)) in
       omega (arith, l, eqb-true v (x .0) (x .2))
 
 -- ── a row ──
@@ -51,30 +49,28 @@ by-in : {asked : ℕ → ℕ → Type 0} {y v : ℕ} {row : List ℕ} → In y r
 by-in i a = record { place = i .0; before = i .1; asks = rw (i .2) a }
 
 -- the row of one of two vertices lies within the table
-pub row-inside : {m : Mesh} {n : ℕ} {table : List ℕ} {u x : ℕ} {r : Row} → RowOf m n table u r ⊎ RowOf m n table x r → r .from + r .size ≤ length table
+pub row-inside : {ls : List ℕ} {n : ℕ} {table : List ℕ} {u x : ℕ} {r : Row} → RowOf ls n table u r ⊎ RowOf ls n table x r → r .from + r .size ≤ length table
 row-inside w = ⊎-elim (λ y. y .inside) (λ y. y .inside) w
 
 module _ {ls : List ℕ} {n : ℕ} {table ms : List ℕ} (g : Lent ls n table ms) where
   -- two vertices of one tetrahedron: the one stands in the other's row
-  in-row : (e : Tetrahedron) → List·Memᴰ e (meshOf [] ls [] .tets) → (a v : ℕ) {r : Row} → isIn a (e .vertices) ≡ true → isIn v (e .vertices) ≡ true → eqb v a ≡ false → RowOf (meshOf [] ls []) n table a r → In v (entriesOf table r)
-  unfolding together
-  in-row e m a v p q z w =
-      let small = held-below (g .labelled) e m in
-      entries-have w (small a p) (small v q) (ne-eqb a v (λ y. eqb-false v a z (sym y))) (any-from (holds (a ∷ v ∷ [])) (meshOf [] ls [] .tets) m (rw (p, q)))
+  in-row : (i : ℕ) → List·Memᴰ i (upTo (length ls / 4)) → (a v : ℕ) {r : Row} → isIn a (row4 ls i) ≡ true → isIn v (row4 ls i) ≡ true → eqb v a ≡ false → RowOf ls n table a r → In v (entriesOf table r)
+  in-row i m a v p q z w =
+      let small = held-below (g .labelled) i m in
+      entries-have w (small a p) (small v q) (ne-eqb a v (λ y. eqb-false v a z (sym y))) (any-from (hasAll ls (a ∷ v ∷ [])) (upTo (length ls / 4)) m (rw (p, q)))
 
-  module _ {u x : ℕ} {r : Row} (w : RowOf (meshOf [] ls []) n table u r ⊎ RowOf (meshOf [] ls []) n table x r) where
+  module _ {u x : ℕ} {r : Row} (w : RowOf ls n table u r ⊎ RowOf ls n table x r) where
     abbrev row : List ℕ
     row = entriesOf table r
 
     -- of a facet's vertices, the third stands in the row of each of the others
-    third-in : (v : ℕ) → together (meshOf [] ls []) (u ∷ x ∷ v ∷ []) ≡ true → eqb v u ≡ false → eqb v x ≡ false → In v row
-    unfolding together
+    third-in : (v : ℕ) → togetherIn ls (u ∷ x ∷ v ∷ []) ≡ true → eqb v u ≡ false → eqb v x ≡ false → In v row
     third-in v t p q =
-        let f = any-at (holds (u ∷ x ∷ v ∷ [])) (meshOf [] ls [] .tets) t in
-        let e = f .0 in
-        let h = both-right (isIn u (e .vertices)) _ (f .2) in
-        let i = both-left (isIn v (e .vertices)) _ (both-right (isIn x (e .vertices)) _ h) in
-        ⊎-elim (in-row e (f .1) u v (both-left (isIn u (e .vertices)) _ (f .2)) i p) (in-row e (f .1) x v (both-left (isIn x (e .vertices)) _ h) i q) w
+        let f = any-at (hasAll ls (u ∷ x ∷ v ∷ [])) (upTo (length ls / 4)) t in
+        let e = row4 ls (f .0) in
+        let h = both-right (isIn u e) _ (f .2) in
+        let i = both-left (isIn v e) _ (both-right (isIn x e) _ h) in
+        ⊎-elim (in-row (f .0) (f .1) u v (both-left (isIn u e) _ (f .2)) i p) (in-row (f .0) (f .1) x v (both-left (isIn x e) _ h) i q) w
 
     -- a vertex that links x and another at u stands there too
     link-in : {b : Bar} {v y : ℕ} → Links ls b u x v y → In y row

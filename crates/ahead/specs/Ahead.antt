@@ -7,9 +7,7 @@ use mathlib.Core.Bool.{Bool, true, false, not, _&&_}
 use mathlib.Core.List.{List, [], _∷_}
 use lib.Dec.{eqb, leb}
 use lib.ListN.{getD}
-use Rattle.space.specs.Mesh.{together}
-use Rattle.space.specs.Arrays.{meshOf}
-use Rattle.around.specs.Index.{Labelled}
+use Rattle.around.specs.Index.{Labelled, togetherIn}
 use Rattle.marks.specs.Marks.{Marked, noted}
 use Rattle.neighbours.specs.Reading.{Tabled}
 use Rattle.ahead.specs.declared.Bar.{Bar}
@@ -19,7 +17,7 @@ use Rattle.ahead.specs.declared.Linking.{Linking}
 pub record Lent (ls : List ℕ) (n : ℕ) (table ms : List ℕ) : Type 0 where
   pub labelled : Labelled ls n
   pub few : n ≤ 512
-  pub tabled : Tabled (meshOf [] ls []) n table
+  pub tabled : Tabled ls n table
   pub marked : Marked ls ms
 
 -- x is another vertex than u and w, and the bar leaves it in: it is from the floor on, and none of o, p and q
@@ -30,8 +28,8 @@ mayLink b u w x =
 -- x links w and v at u: it makes a facet with u and w, and one with u and v
 pub record Links (ls : List ℕ) (b : Bar) (u w v x : ℕ) : Type 0 where
   pub may : mayLink b u w x ≡ true
-  pub near : together (meshOf [] ls []) (u ∷ w ∷ x ∷ []) ≡ true
-  pub facet : together (meshOf [] ls []) (u ∷ x ∷ v ∷ []) ≡ true
+  pub near : togetherIn ls (u ∷ w ∷ x ∷ []) ≡ true
+  pub facet : togetherIn ls (u ∷ x ∷ v ∷ []) ≡ true
 
 -- and v is not u
 pub record Beside (ls : List ℕ) (b : Bar) (u w x v : ℕ) : Type 0 where
@@ -75,4 +73,4 @@ pub record NotedAt (ms : List ℕ) (u x y v : ℕ) : Type 0 where
 -- v is not u and makes a facet with u and x
 pub record Faces (ls : List ℕ) (u x v : ℕ) : Type 0 where
   pub new : eqb v u ≡ false
-  pub facet : together (meshOf [] ls []) (u ∷ x ∷ v ∷ []) ≡ true
+  pub facet : togetherIn ls (u ∷ x ∷ v ∷ []) ≡ true

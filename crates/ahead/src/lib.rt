@@ -10,7 +10,6 @@ ghost use mathlib.Core.Bool.{true};
 ghost use mathlib.Core.List.{[], _∷_};
 ghost use Prim.Native.Nat.{_<_, _≤_};
 ghost use lib.ListN.{length};
-ghost use Rattle.space.specs.Arrays.{meshOf};
 ghost use Rattle.marks.specs.Marks.{places, noted};
 ghost use Rattle.neighbours.specs.Reading.{RowOf};
 ghost use Rattle.ahead.specs.Adds.{Adds, LinkAt};
@@ -48,7 +47,7 @@ pub fn fewer(r: Row, q: Row) -> Row
 // The row of that one of two vertices that has fewer neighbours.
 fn shorter(labels: &[u16], n: usize, table: &[u16], marks: &[u8], u: Vertex, w: Vertex) -> Row
     requires { ⌜ Lent (now labels) n (now table) (now marks) ⌝ }
-    ensures { λ r. ⌜ RowOf (meshOf [] (now (labels .entry)) []) n (now (table .entry)) (u .0) r ⊎ RowOf (meshOf [] (now (labels .entry)) []) n (now (table .entry)) (w .0) r ⌝ }
+    ensures { λ r. ⌜ RowOf (now (labels .entry)) n (now (table .entry)) (u .0) r ⊎ RowOf (now (labels .entry)) n (now (table .entry)) (w .0) r ⌝ }
 {
     let r = row_of(labels, n, table, u);
     let q = row_of(labels, n, table, w);

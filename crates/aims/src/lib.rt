@@ -19,7 +19,7 @@ ghost use mathlib.Core.List.{[]};
 ghost use Prim.Native.Nat.{_<_, _≤_};
 ghost use lib.Dec.{eqb};
 ghost use lib.ListN.{length};
-ghost use Rattle.space.specs.Arrays.{meshOf, Close};
+ghost use Rattle.space.specs.Arrays.{Close};
 ghost use Rattle.marks.specs.Marks.{places};
 ghost use Rattle.neighbours.specs.Reading.{Tabled};
 ghost use Rattle.ahead.specs.Ahead.{Lent, Only, Least};
@@ -321,7 +321,7 @@ fn pair_size(
     x: usize,
     i: usize,
 ) -> usize
-    requires { ⌜ (now tables ≡ levels) × (Tabled (meshOf [] (now labels) []) n (now table) × ((x < 19) × (i < 5))) ⌝ }
+    requires { ⌜ (now tables ≡ levels) × (Tabled (now labels) n (now table) × ((x < 19) × (i < 5))) ⌝ }
 {
     let u = t[look_of(tables, x, i)];
     let w = t[look_of(tables, x, i + 1)];
@@ -341,7 +341,7 @@ fn is_far(
     x: usize,
     size: usize,
 ) -> bool
-    requires { ⌜ (now tables ≡ levels) × (Tabled (meshOf [] (now labels) []) n (now table) × (x < 19)) ⌝ }
+    requires { ⌜ (now tables ≡ levels) × (Tabled (now labels) n (now table) × (x < 19)) ⌝ }
 {
     let most = size / 4;
     if pair_size(tables, labels, n, table, t, x, 0) <= most {
@@ -360,7 +360,7 @@ pub fn looks_ahead(
     x: usize,
     size: usize,
 ) -> bool
-    requires { ⌜ (now tables ≡ levels) × (Tabled (meshOf [] (now labels) []) n (now table) × (x < 19)) ⌝ }
+    requires { ⌜ (now tables ≡ levels) × (Tabled (now labels) n (now table) × (x < 19)) ⌝ }
     ensures { λ r. ⌜ (r ≡ true → eqb (look x 0) (look x 1) ≡ false) ⌝ }
 {
     if is_hub(tables, x, size) {

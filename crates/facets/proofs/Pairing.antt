@@ -13,10 +13,8 @@ use borrow.Author.Tests.{eqb-true, eq-eqb, ne-eqb, lt-leb}
 use Rattle.base.specs.Lists.{any, count, from, upTo, distinct}
 use Rattle.base.proofs.Lists.{any-at}
 use Rattle.base.proofs.Members.{from-at}
-use Rattle.space.specs.Mesh.{holds}
-use Rattle.space.specs.Arrays.{row4, tetAt, meshOf}
-use Rattle.around.specs.Index.{Labelled, hasAll}
-use Rattle.around.proofs.Around.{count-map}
+use Rattle.space.specs.Arrays.{row4}
+use Rattle.around.specs.Index.{Labelled, hasAll, sharers}
 use Rattle.pairs.specs.declared.Pair.{Pair}
 use Rattle.pairs.specs.Pairs.{Names}
 use Rattle.facets.specs.Facets.{full, clashes, clashing, Tries}
@@ -63,7 +61,7 @@ unfolding full
 no-third {ls} {a} {b} {c} {r} u s n =
     let t = length ls / 4 in
     let h = count-either (hasAll ls (a ∷ b ∷ c ∷ [])) (is (r .one)) (is (r .two)) t 0 (λ m l o. ⊎-elim (λ e. inl (eq-eqb (r .one) (m + 1) e)) (λ e. inr (eq-eqb (r .two) (m + 1) e)) (s .among n m (omega arith) o)) in
-    lt-leb 3 (count (holds (a ∷ b ∷ c ∷ [])) (meshOf [] ls [] .tets)) (omega (arith, h, count-map (tetAt ls []) (holds (a ∷ b ∷ c ∷ [])) (upTo t), count-one (r .one) t 0, count-one (r .two) t 0))
+    lt-leb 3 (sharers ls (a ∷ b ∷ c ∷ [])) (omega (arith, h, count-one (r .one) t 0, count-one (r .two) t 0))
 
 -- ---- no other tetrahedron clashes
 

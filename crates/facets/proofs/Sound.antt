@@ -9,11 +9,10 @@ use lib.Dec.{eqb}
 use lib.IntN.{ℤ}
 use lib.ListN.{length, getD}
 use borrow.Author.Tests.{leb-false, not-false, eqb-true, ne-eqb}
-use Rattle.base.specs.Lists.{any, count, isIn}
+use Rattle.base.specs.Lists.{any, isIn}
 use Rattle.space.specs.Box.{isAbove0}
-use Rattle.space.specs.Mesh.{holds}
-use Rattle.space.specs.Arrays.{row4, meshOf}
-use Rattle.around.specs.Index.{Labelled, hasAll}
+use Rattle.space.specs.Arrays.{row4}
+use Rattle.around.specs.Index.{Labelled, hasAll, sharers}
 use Rattle.around.proofs.Rows.{or-left, or-right}
 use Rattle.tets.specs.Tets.{boxAt, flat, anyFlat}
 use Rattle.tets.proofs.Labelled.{none-at}
@@ -40,7 +39,7 @@ facets-of q P f ls e h =
 
 -- at most two tetrahedra have the facet
 abbrev pub Paired : List ℕ → ℕ → ℕ → ℕ → ℕ → Type 0
-Paired ls u a b c = count (holds (a ∷ b ∷ c ∷ [])) (meshOf [] ls [] .tets) ≤ 2
+Paired ls u a b c = sharers ls (a ∷ b ∷ c ∷ []) ≤ 2
 
 -- no tetrahedron clashes with e there: each other one with the facet has its fourth vertex strictly on the other side
 abbrev pub Faced : List ℤ → List ℕ → ℕ → ℕ → ℕ → ℕ → ℕ → Type 0
@@ -77,7 +76,7 @@ pub record Sound (zs : List ℤ) (ls : List ℕ) : Type 0 where
 
 pub paired-at : (ls : List ℕ) (e : ℕ) → crowded ls e ≡ false → AtFacets (Paired ls) ls e
 unfolding crowded full
-paired-at ls e h = facets-of (full ls) (Paired ls) (λ u a b c k. omega (arith, leb-false 3 (count (holds (a ∷ b ∷ c ∷ [])) (meshOf [] ls [] .tets)) k)) ls e h
+paired-at ls e h = facets-of (full ls) (Paired ls) (λ u a b c k. omega (arith, leb-false 3 (sharers ls (a ∷ b ∷ c ∷ [])) k)) ls e h
 
 pub faced-at : (zs : List ℤ) (ls : List ℕ) (e : ℕ) → folded zs ls e ≡ false → AtFacets (Faced zs ls e) ls e
 unfolding folded clashing

@@ -8,11 +8,10 @@ use mathlib.Core.List.{List, [], _∷_}
 use lib.Dec.{leb, eqb}
 use lib.IntN.{ℤ, pos, negsuc}
 use lib.ListN.{length, getD}
-use Rattle.base.specs.Lists.{any, count, isIn}
+use Rattle.base.specs.Lists.{any, isIn}
 use Rattle.space.specs.Box.{isAbove0}
-use Rattle.space.specs.Mesh.{holds}
-use Rattle.space.specs.Arrays.{row4, meshOf}
-use Rattle.around.specs.Index.{hasAll}
+use Rattle.space.specs.Arrays.{row4}
+use Rattle.around.specs.Index.{hasAll, sharers}
 use Rattle.tets.specs.Tets.{someTet, boxAt}
 
 -- the test passes at some facet of tetrahedron e; it is given the fourth vertex, then the facet's three
@@ -36,7 +35,7 @@ opposite x y = (isAbove0 x && isBelow0 y) || (isBelow0 x && isAbove0 y)
 
 -- three or more tetrahedra have the facet a, b, c
 unfoldable pub full : List ℕ → ℕ → ℕ → ℕ → ℕ → Bool
-full ls u a b c = leb 3 (count (holds (a ∷ b ∷ c ∷ [])) (meshOf [] ls [] .tets))
+full ls u a b c = leb 3 (sharers ls (a ∷ b ∷ c ∷ []))
 
 unfoldable pub crowded : List ℕ → ℕ → Bool
 crowded ls e = someFacet (full ls) ls e

@@ -13,10 +13,12 @@ use lib.ListN.{length, getD}
 use Rattle.base.specs.Lists.{all, any, upTo, isIn}
 use Rattle.base.proofs.Bools.{or-false, or-either}
 use Rattle.base.proofs.Lists.{both-left, both-right, all-at, any-at}
-use Rattle.base.proofs.Members.{all-map, all-both, from-has}
+use Rattle.base.proofs.Members.{all-map, all-both}
 use Rattle.space.specs.Mesh.{Mesh, together, holds}
 use Rattle.space.specs.Arrays.{meshOf}
-use Rattle.templates.specs.Tables.{Template, hexahedron, prism, pyramid, templateOf, at}
+use Rattle.around.specs.Index.{togetherIn}
+use Rattle.around.proofs.Around.{together-in}
+use Rattle.templates.specs.Tables.{Template, pyramid, templateOf, at}
 use Rattle.cells.specs.Cells.{first, second, isFacet, isSplit, hasFaces}
 use Rattle.rule.specs.Rule.{isLeaf}
 use Rattle.ahead.specs.Ahead.{mayLink, Closes, Links}
@@ -24,7 +26,7 @@ use Rattle.levels.specs.Levels.{base, lesser, look}
 use Rattle.aims.specs.Aims.{floorOf, ClosesPair, Follows, LinksFirst, Aims}
 use Rattle.levels.proofs.Right.{at-place}
 use Rattle.levels.proofs.Following.{ways, covered, linked, follows, followsAny, ahead-at, follows-below, floored, Sides, Twice, RowThree, row-three, row-eleven, row-sixteen}
-use Rattle.listed.proofs.Prune.{together-bare, leaf-faces, leaf-small}
+use Rattle.listed.proofs.Prune.{leaf-faces, leaf-small}
 use Rattle.listed.proofs.Above.{leaf-above}
 use Rattle.listed.proofs.Joined.{leaf-apart}
 
@@ -111,14 +113,14 @@ module _ (zs : List ℤ) (ls ps : List ℕ) (k : ℕ) (s : List ℕ) (leaf : isL
       ∙ both-right (all (isFacet m t c) (t .triangles)) _ f)
       (rw (both-left (all (isFacet m t c) (t .triangles)) _ f))
 
-  stands : (ks : List ℕ) (fs : List (List ℕ)) → all (isFacet m t c) fs ≡ true → covered t ks fs ≡ true → together (meshOf [] ls []) (at s ks) ≡ true
+  stands : (ks : List ℕ) (fs : List (List ℕ)) → all (isFacet m t c) fs ≡ true → covered t ks fs ≡ true → togetherIn ls (at s ks) ≡ true
   unfolding covered isFacet
   stands ks fs a e =
       let r = any-at (λ f. all (λ k. ltb k (length (t .places))) f && all (λ k. isIn k (at (t .places) f)) ks) fs e in
       let f = r .0 in
       let g = all-at (λ f. together m (at c f)) fs a (r .1) in
       let b = both-left (all (λ k. ltb k (length (t .places))) f) _ (r .2) in
-      sym (together-bare zs ls ps (at s ks))
+      sym (together-in zs ls ps (at s ks))
       ∙ among m s (at (t .places) f) ks (ap (together m) (sym (at-at s (t .places) f b)) ∙ g) (both-right (all (λ k. ltb k (length (t .places))) f) _ (r .2))
 
   -- a corner of the listed tuple that links three, at one of the places ys and not at q
@@ -130,8 +132,8 @@ module _ (zs : List ℤ) (ls ps : List ℕ) (k : ℕ) (s : List ℕ) (leaf : isL
     pub other : eqb (getD s place 0) (getD s u 0) ≡ false
     pub further : eqb (getD s place 0) (getD s w 0) ≡ false
     pub aside : eqb (getD s place 0) (getD s q 0) ≡ false
-    pub near : together (meshOf [] ls []) (getD s u 0 ∷ getD s w 0 ∷ getD s place 0 ∷ []) ≡ true
-    pub facet : together (meshOf [] ls []) (getD s u 0 ∷ getD s place 0 ∷ getD s d 0 ∷ []) ≡ true
+    pub near : togetherIn ls (getD s u 0 ∷ getD s w 0 ∷ getD s place 0 ∷ []) ≡ true
+    pub facet : togetherIn ls (getD s u 0 ∷ getD s place 0 ∷ getD s d 0 ∷ []) ≡ true
 
   linking : (ys : List ℕ) (u w q d : ℕ) → u < templateOf k .corners → w < templateOf k .corners → q < templateOf k .corners → (fs : List (List ℕ)) → all (isFacet m t c) fs ≡ true → linked t ys u w q d fs ≡ true → Linking ys u w q d
   unfolding linked

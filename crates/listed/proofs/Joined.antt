@@ -16,14 +16,16 @@ use Rattle.base.proofs.Lists.{both-left, both-right, all-at, any-at}
 use Rattle.base.proofs.Members.{map-has, from-has}
 use Rattle.space.specs.Mesh.{Mesh, Tetrahedron, together, holds}
 use Rattle.space.specs.Arrays.{meshOf}
+use Rattle.around.specs.Index.{togetherIn}
+use Rattle.around.proofs.Around.{together-in}
 use Rattle.templates.specs.Tables.{Template, place, templateOf, at}
 use Rattle.cells.specs.Cells.{hasEdges}
 use Rattle.cells.specs.Full.{allowed}
 use Rattle.portions.specs.Tuples.{front}
 use Rattle.rule.specs.Rule.{isLeaf}
 use Rattle.levels.specs.Levels.{base}
-use Rattle.levels.proofs.Right.{isRow, joins, joinedBy, Right, right-at, row-same}
-use Rattle.listed.proofs.Prune.{together-bare, leaf-edges, leaf-allowed}
+use Rattle.levels.proofs.Right.{isRow, joins, joinedBy, right-at, row-same}
+use Rattle.listed.proofs.Prune.{leaf-edges, leaf-allowed}
 
 together-swap : (m : Mesh) (u v : ℕ) → together m (u ∷ v ∷ []) ≡ together m (v ∷ u ∷ [])
 unfolding together
@@ -66,7 +68,7 @@ module _ (zs : List ℤ) (ls ps : List ℕ) (k : ℕ) (s : List ℕ) (leaf : isL
 
 pub record Joined (ls : List ℕ) (s : List ℕ) (p d : ℕ) : Type 0 where
   pub earlier : p < d
-  pub edge : together (meshOf [] ls []) (getD s p 0 ∷ getD s d 0 ∷ []) ≡ true
+  pub edge : togetherIn ls (getD s p 0 ∷ getD s d 0 ∷ []) ≡ true
   pub other : eqb (getD s p 0) (getD s d 0) ≡ false
 
 module _ (zs : List ℤ) (ls ps : List ℕ) (k : ℕ) (s : List ℕ) (leaf : isLeaf (meshOf zs ls ps) (templateOf k) s ≡ true) (d : ℕ) (h : d < templateOf k .corners) where
@@ -94,7 +96,7 @@ module _ (zs : List ℤ) (ls ps : List ℕ) (k : ℕ) (s : List ℕ) (leaf : isL
     joins-leaf : Joined ls s p d
     joins-leaf = record {
       earlier = before;
-      edge = sym (together-bare zs ls ps (getD s p 0 ∷ getD s d 0 ∷ [])) ∙ edge-here;
+      edge = sym (together-in zs ls ps (getD s p 0 ∷ getD s d 0 ∷ [])) ∙ edge-here;
       other = ne-eqb (getD s p 0) (getD s d 0) (later-differs zs ls ps k s leaf p d before h);
     }
 

@@ -13,10 +13,11 @@ use Rattle.base.specs.Lists.{all, any, upTo, isIn}
 use Rattle.base.proofs.Lists.{both-left, both-right, all-at, all-from}
 use Rattle.base.proofs.Loop.{getD-up, listed}
 use Rattle.base.proofs.Members.{from-at}
-use Rattle.base.proofs.Runs.{any-map}
-use Rattle.space.specs.Mesh.{Mesh, together, holds}
+use Rattle.space.specs.Mesh.{Mesh, together}
 use Rattle.space.specs.Box.{isAbove0}
-use Rattle.space.specs.Arrays.{tetAt, meshOf}
+use Rattle.space.specs.Arrays.{meshOf}
+use Rattle.around.specs.Index.{togetherIn}
+use Rattle.around.proofs.Around.{together-in}
 use Rattle.templates.specs.Tables.{Template, Place, place, hexahedron, prism, pyramid, templateOf, at}
 use Rattle.cells.specs.Cells.{first, second, splits, boxOf, boxesAbove, boxAt, hasEdges, isFacet, isSplit, hasFaces, isCell}
 use Rattle.cells.specs.Full.{allowed}
@@ -55,12 +56,6 @@ flat-at k = go (eqb k 8) (eqb k 6)
 
 -- ── the mesh by its arrays ──
 
--- which vertices stand together does not depend on points and parts
-pub together-bare : (zs : List ℤ) (ls ps vs : List ℕ) → together (meshOf zs ls ps) vs ≡ together (meshOf [] ls []) vs
-unfolding together
-together-bare zs ls ps vs =
-    any-map (holds vs) (tetAt ls ps) (upTo (length ls / 4)) ∙ sym (any-map (holds vs) (tetAt ls []) (upTo (length ls / 4)))
-
 -- a quadrilateral of four vertices is split, where b says which triangles are facets
 abbrev splitBy : (List ℕ → Bool) → ℕ → ℕ → ℕ → ℕ → Bool
 splitBy b w x y z =
@@ -74,15 +69,15 @@ or-imp false b true d f g e = refl
 or-imp false b false d f g e = g e
 
 module _ {ls ms : List ℕ} (g : Marked ls ms) where
-  both-noted : (u v w x y z : ℕ) → all (together (meshOf [] ls [])) ((u ∷ v ∷ w ∷ []) ∷ (x ∷ y ∷ z ∷ []) ∷ []) ≡ true → bothNoted ms u v w x y z ≡ true
+  both-noted : (u v w x y z : ℕ) → all (togetherIn ls) ((u ∷ v ∷ w ∷ []) ∷ (x ∷ y ∷ z ∷ []) ∷ []) ≡ true → bothNoted ms u v w x y z ≡ true
   both-noted u v w x y z e =
-      let a = both-left (together (meshOf [] ls []) (u ∷ v ∷ w ∷ [])) _ e in
-      let b = both-left (together (meshOf [] ls []) (x ∷ y ∷ z ∷ [])) _ (both-right (together (meshOf [] ls []) (u ∷ v ∷ w ∷ [])) _ e) in
+      let a = both-left (togetherIn ls (u ∷ v ∷ w ∷ [])) _ e in
+      let b = both-left (togetherIn ls (x ∷ y ∷ z ∷ [])) _ (both-right (togetherIn ls (u ∷ v ∷ w ∷ [])) _ e) in
       rw (g .facets u v w a, g .facets x y z b)
 
-  split-noted : (w x y z : ℕ) → splitBy (together (meshOf [] ls [])) w x y z ≡ true → splitAt ms w x y z ≡ true
+  split-noted : (w x y z : ℕ) → splitBy (togetherIn ls) w x y z ≡ true → splitAt ms w x y z ≡ true
   split-noted w x y z e =
-      or-imp (all (together (meshOf [] ls [])) ((w ∷ x ∷ y ∷ []) ∷ (w ∷ y ∷ z ∷ []) ∷ [])) (all (together (meshOf [] ls [])) ((w ∷ x ∷ z ∷ []) ∷ (x ∷ y ∷ z ∷ []) ∷ [])) (bothNoted ms w x y w y z) (bothNoted ms w x z x y z) (both-noted w x y w y z) (both-noted w x z x y z) e
+      or-imp (all (togetherIn ls) ((w ∷ x ∷ y ∷ []) ∷ (w ∷ y ∷ z ∷ []) ∷ [])) (all (togetherIn ls) ((w ∷ x ∷ z ∷ []) ∷ (x ∷ y ∷ z ∷ []) ∷ [])) (bothNoted ms w x y w y z) (bothNoted ms w x z x y z) (both-noted w x y w y z) (both-noted w x z x y z) e
 
 -- ── a listed tuple ──
 
@@ -163,7 +158,7 @@ module _ (zs : List ℤ) (ls ps : List ℕ) (k : ℕ) (s : List ℕ) (leaf : isL
             (λ r q e f.
             let o = at-row u r 3 (row-sizes 3 t d r q e .0) in
             ap (notedFacet ms) o
-            ∙ marked .facets (getD u (getD r 0 0) 0) (getD u (getD r 1 0) 0) (getD u (getD r 2 0) 0) (ap (together (meshOf [] ls [])) (sym o) ∙ sym (together-bare zs ls ps (at u r)) ∙ ap (together m) (row-same 3 t d r q u s e g) ∙ f))
+            ∙ marked .facets (getD u (getD r 0 0) 0) (getD u (getD r 1 0) 0) (getD u (getD r 2 0) 0) (ap (togetherIn ls) (sym o) ∙ sym (together-in zs ls ps (at u r)) ∙ ap (together m) (row-same 3 t d r q u s e g) ∙ f))
 
         halves : all (splits (notedAt ms u)) (levelQuads (base k + d)) ≡ true
         unfolding hasFaces isSplit isFacet first second
@@ -171,10 +166,10 @@ module _ (zs : List ℤ) (ls ps : List ℕ) (k : ℕ) (s : List ℕ) (leaf : isL
             rows-pass (isSplit m t c) (splits (notedAt ms u)) 4 t d (levelQuads (base k + d)) (t .quads) (right .ofQuads) (both-right (all (isFacet m t c) (t .triangles)) _ (met .faces))
             (λ r q e f. split-noted marked (getD u (getD r 0 0) 0) (getD u (getD r 1 0) 0) (getD u (getD r 2 0) 0) (getD u (getD r 3 0) 0) (same-split r q (vertex-same 4 t d r q u s e g) ∙ f))
           where
-            same-split : (r q : List ℕ) → ((i : ℕ) → i < 4 → getD u (getD r i 0) 0 ≡ getD c (getD q i 0) 0) → splitBy (together (meshOf [] ls [])) (getD u (getD r 0 0) 0) (getD u (getD r 1 0) 0) (getD u (getD r 2 0) 0) (getD u (getD r 3 0) 0) ≡ isSplit (meshOf zs ls ps) (templateOf k) c q
+            same-split : (r q : List ℕ) → ((i : ℕ) → i < 4 → getD u (getD r i 0) 0 ≡ getD c (getD q i 0) 0) → splitBy (togetherIn ls) (getD u (getD r 0 0) 0) (getD u (getD r 1 0) 0) (getD u (getD r 2 0) 0) (getD u (getD r 3 0) 0) ≡ isSplit (meshOf zs ls ps) (templateOf k) c q
             same-split r q f =
                 sym (rw (sym (f 0 (omega arith)), sym (f 1 (omega arith)), sym (f 2 (omega arith)), sym (f 3 (omega arith)))
-                (ap (λ b. splitBy b (getD u (getD r 0 0) 0) (getD u (getD r 1 0) 0) (getD u (getD r 2 0) 0) (getD u (getD r 3 0) 0)) (fun-ext (together-bare zs ls ps))))
+                (ap (λ b. splitBy b (getD u (getD r 0 0) 0) (getD u (getD r 1 0) 0) (getD u (getD r 2 0) 0) (getD u (getD r 3 0) 0)) (fun-ext (together-in zs ls ps))))
 
         -- the test of level d, of any tuple that begins as this one does
         pub passes : fits zs ms (base k + d) d u ≡ true

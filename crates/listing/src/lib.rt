@@ -40,7 +40,7 @@ fn write_listed(
     records: &mut [u16],
 ) -> Answer
     requires { ⌜ Arrays (now coords) (now labels) (now parts) n (now offsets) (now entries) ⌝ }
-    requires { ⌜ Tabled (meshOf [] (now labels) []) n (now table) ⌝ }
+    requires { ⌜ Tabled (now labels) n (now table) ⌝ }
     ensures { λ r. ⌜ Written (meshOf (now (coords .entry)) (now (labels .entry)) (now (parts .entry))) (markOf mark) (now (records .entry)) r (now (records .exit)) ⌝ }
 {
     let mut marks: [u8; 131072] = [0; 131072];

@@ -15,9 +15,8 @@ use Rattle.base.proofs.Stores.{earlier, stores-then}
 use Rattle.base.proofs.Bools.{or-false, or-either}
 use Rattle.base.proofs.Lists.{both-left, both-right, any-at}
 use Rattle.base.proofs.Members.{from-at}
-use Rattle.base.proofs.Runs.{any-map}
-use Rattle.space.specs.Mesh.{together, holds}
-use Rattle.space.specs.Arrays.{row4, tetAt}
+use Rattle.around.specs.Index.{hasAll}
+use Rattle.space.specs.Arrays.{row4}
 use Rattle.space.proofs.Turned.{spread-first, spread-last}
 use Rattle.marks.specs.Marks.{places, key, noted, Marked, Notes, Among, OfPoint, OfSquare, OfTet, OfNumber}
 
@@ -82,11 +81,10 @@ module _ {m m′ m″ : List ℕ} {a : ℕ} where
 -- ── all tetrahedra ──
 
 pub all-marked : {m m′ ls : List ℕ} → length m ≡ places → Notes m m′ (Below (OfNumber ls) (length ls / 4)) → Marked ls m′
-unfolding together
 all-marked {m} {m′} {ls} l a = record {
   size = a .same ∙ l;
   facets = λ u v w e.
-      let f = any-at (λ i. holds (u ∷ v ∷ w ∷ []) (tetAt ls [] i)) (upTo (length ls / 4)) (sym (any-map (holds (u ∷ v ∷ w ∷ [])) (tetAt ls []) (upTo (length ls / 4))) ∙ e) in
+      let f = any-at (hasAll ls (u ∷ v ∷ w ∷ [])) (upTo (length ls / 4)) e in
       let i = f .0 in
       let g = f .2 in
       let g1 = both-right (isIn u (row4 ls i)) _ g in

@@ -8,9 +8,9 @@ use lib.Dec.{eqb}
 use lib.ListN.{length, getD}
 use Rattle.base.specs.Lists.{all, isIn}
 use Rattle.base.specs.Stores.{Stores}
-use Rattle.space.specs.Mesh.{together}
-use Rattle.space.specs.Arrays.{row4, meshOf}
+use Rattle.space.specs.Arrays.{row4}
 use Rattle.space.specs.Spread.{spread}
+use Rattle.around.specs.Index.{togetherIn}
 use Rattle.templates.specs.Tables.{at}
 use Rattle.cells.specs.Cells.{allFaces}
 
@@ -29,7 +29,7 @@ noted ms u v w = not (eqb (getD ms (key u v w) 0) 0)
 -- every three vertices of a tetrahedron have their mark
 pub record Marked (ls ms : List ℕ) : Type 0 where
   pub size : length ms ≡ places
-  pub facets : (u v w : ℕ) → together (meshOf [] ls []) (u ∷ v ∷ w ∷ []) ≡ true → noted ms u v w ≡ true
+  pub facets : (u v w : ℕ) → togetherIn ls (u ∷ v ∷ w ∷ []) ≡ true → noted ms u v w ≡ true
 
 -- three vertices in a list have their mark; the corners ks of c have it
 abbrev pub notedFacet : List ℕ → List ℕ → Bool

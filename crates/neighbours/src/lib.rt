@@ -9,7 +9,6 @@ ghost use mathlib.Core.Bool.{true, cond};
 ghost use Prim.Native.Nat.{ℕ, _+_, _*_, _/_, _<_, _≤_};
 ghost use lib.ListN.{length, getD};
 ghost use Rattle.base.specs.Laid.{Laid};
-ghost use Rattle.space.specs.Arrays.{meshOf};
 ghost use Rattle.around.specs.Index.{Labelled};
 ghost use Rattle.neighbours.specs.Table.{rowOf, rowsOf, offsets, filledBy, laidBy, tableIn};
 ghost use Rattle.neighbours.specs.Grown.{Grown, partOf, Few};

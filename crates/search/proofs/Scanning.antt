@@ -14,8 +14,8 @@ use lib.IntN.{ℤ}
 use lib.ListN.{length, getD, set}
 use lib.Seq.{getD-set-same, getD-set-other}
 use Rattle.base.proofs.Loop.{length-up}
-use Rattle.space.specs.Mesh.{together}
 use Rattle.space.specs.Arrays.{pointAt, meshOf}
+use Rattle.around.specs.Index.{togetherIn}
 use Rattle.templates.specs.Tables.{templateOf}
 use Rattle.neighbours.specs.declared.Row.{Row}
 use Rattle.neighbours.specs.Reading.{RowOf, entriesOf}
@@ -53,7 +53,7 @@ module _ {zs : List ℤ} {ls : List ℕ} {n : ℕ} {ms table : List ℕ} (g : So
   points : (ps : List ℕ) → length (meshOf zs ls ps .points) ≡ n
   points ps = length-up (pointAt zs) (length zs / 3) ∙ g .counted
 
-  module _ {u : ℕ} {r : Row} (w : RowOf (meshOf [] ls []) n table u r) where
+  module _ {u : ℕ} {r : Row} (w : RowOf ls n table u r) where
     module _ (p : ℕ) (q : u ≡ getD t p 0) (joins : (ps s : List ℕ) → isLeaf (meshOf zs ls ps) (templateOf k) s ≡ true → Joined ls s p d) where
       pub row-serves : Serves r
       row-serves = record {
@@ -62,7 +62,7 @@ module _ {zs : List ℤ} {ls : List ℕ} {n : ℕ} {ms table : List ℕ} (g : So
             let j = joins ps s leaf in
             let same : u ≡ getD s p 0 = q ∙ a p (j .earlier) in
             let l : u < n = omega (arith, same, leaf-small zs ls ps k s leaf p (omega (arith, j .earlier)), points ps) in
-            entries-have w l (omega (arith, leaf-small zs ls ps k s leaf d h, points ps)) (ap (λ y. eqb y (getD s d 0)) same ∙ j .other) (ap (λ y. together (meshOf [] ls []) (y ∷ getD s d 0 ∷ [])) same ∙ j .edge);
+            entries-have w l (omega (arith, leaf-small zs ls ps k s leaf d h, points ps)) (ap (λ y. eqb y (getD s d 0)) same ∙ j .other) (ap (λ y. togetherIn ls (y ∷ getD s d 0 ∷ [])) same ∙ j .edge);
       }
 
   either-serves : {r q a : Row} → Serves r → Serves q → (a ≡ r) ⊎ (a ≡ q) → Serves a
@@ -72,11 +72,11 @@ module _ {zs : List ℤ} {ls : List ℕ} {n : ℕ} {ms table : List ℕ} (g : So
   -- the rows of the joined corners, and those that are chosen among them
   module _ (z : d ≡ 0 → ⊥) where
     module _ {x : ℕ} (e : x ≡ base k + d) where
-      joined-serves : {l : List ℕ} → List·Memᴰ l joinedBy → {i : ℕ} → i ≡ getD l x 0 → {r : Row} → RowOf (meshOf [] ls []) n table (getD t i 0) r → Serves r
+      joined-serves : {l : List ℕ} → List·Memᴰ l joinedBy → {i : ℕ} → i ≡ getD l x 0 → {r : Row} → RowOf ls n table (getD t i 0) r → Serves r
       joined-serves {l} i f w =
           row-serves w (getD l (base k + d) 0) (ap (λ y. getD t y 0) (f ∙ ap (λ y. getD l y 0) e)) (λ ps s leaf. leaf-joined zs ls ps k s leaf d h z i)
 
-      pub chosen-serve : {i j l : ℕ} → i ≡ getD joined x 0 → j ≡ getD also x 0 → l ≡ getD third x 0 → {r q s f one two : Row} → RowOf (meshOf [] ls []) n table (getD t i 0) r → RowOf (meshOf [] ls []) n table (getD t j 0) q → RowOf (meshOf [] ls []) n table (getD t l 0) s → (f ≡ r) ⊎ (f ≡ q) → (one ≡ f) ⊎ (one ≡ s) → (two ≡ f) ⊎ (two ≡ s) → Serves one × Serves two
+      pub chosen-serve : {i j l : ℕ} → i ≡ getD joined x 0 → j ≡ getD also x 0 → l ≡ getD third x 0 → {r q s f one two : Row} → RowOf ls n table (getD t i 0) r → RowOf ls n table (getD t j 0) q → RowOf ls n table (getD t l 0) s → (f ≡ r) ⊎ (f ≡ q) → (one ≡ f) ⊎ (one ≡ s) → (two ≡ f) ⊎ (two ≡ s) → Serves one × Serves two
       chosen-serve e1 e2 e3 {s = s} {f = f} w1 w2 w3 a b c =
           let first : Serves f = either-serves (joined-serves (List·Memᴰ·head refl) e1 w1) (joined-serves (List·Memᴰ·tail (List·Memᴰ·head refl)) e2 w2) a in
           let last : Serves s = joined-serves (List·Memᴰ·tail (List·Memᴰ·tail (List·Memᴰ·head refl))) e3 w3 in

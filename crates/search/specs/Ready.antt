@@ -26,7 +26,7 @@ pub record Ready (zs : List ℤ) (ls : List ℕ) (n : ℕ) (os es ms table : Lis
   pub few : n ≤ 512
   pub indexed : Indexed ls n os es
   pub marked : Marked ls ms
-  pub tabled : Tabled (meshOf [] ls []) n table
+  pub tabled : Tabled ls n table
 
 -- of that, what looking for the vertex at a place asks for
 pub record Sought (zs : List ℤ) (ls : List ℕ) (n : ℕ) (ms table : List ℕ) : Type 0 where

@@ -17,7 +17,8 @@ use Rattle.around.proofs.Around.{count-keep}
 use Rattle.templates.specs.Tables.{Template, at}
 use Rattle.cells.specs.Cells.{first, second, inside, one, once, paired, covers, fills, splits, allFaces, isTuple, hasEdges, isFacet, isSplit, hasFaces, isSound, belongs, tetsOf, sides, isFilledBy, isFilled, isOnePart, isCell}
 use Rattle.verdict.specs.declared.Verdict.{Verdict}
-use Rattle.verdict.specs.Judged.{lastOf, isSolid, Tells}
+use Rattle.verdict.specs.Judged.{isSolid, Tells}
+use Rattle.judging.specs.Last.{lastOf}
 
 or-left : (a b : Bool) → a ≡ true → (a || b) ≡ true
 or-left a b e = rw e

@@ -10,7 +10,8 @@ use Rattle.cells.specs.Cells.{areCorners, allJoined, allFaces, boxesAbove, boxO
 use Rattle.cells.specs.Rows.{threes, fours, pointsOf, facetIn, ownNumbers}
 use Rattle.around.specs.Index.{togetherIn}
 use Rattle.cells.proofs.InArrays.{tuple-in, edges-in, faces-in, sound-in, numbers-in, filled-in, part-in}
-use Rattle.verdict.specs.Judged.{TablesOf, lastOf, lastWith, lastFailing}
+use Rattle.verdict.specs.Judged.{TablesOf}
+use Rattle.judging.specs.Last.{lastOf, lastWith, lastFailing}
 
 module _ (zs : List ℤ) (ls ps c : List ℕ) {t : Template} {k : ℕ} {ts qs cs ws : List ℕ} (w : TablesOf t k ts qs cs ws) where
   pub tuple-is : areCorners (length zs / 3) k c ≡ isTuple (meshOf zs ls ps) t c

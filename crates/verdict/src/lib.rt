@@ -4,17 +4,14 @@ ghost use mathlib.Core.Bool.{false};
 ghost use Prim.Native.Nat.{_*_, _/_, _≤_};
 ghost use lib.ListN.{length, take};
 ghost use Rattle.space.specs.Arrays.{meshOf};
-ghost use Rattle.around.specs.Build.{Within};
 ghost use Rattle.around.specs.Arrays.{Arrays};
 ghost use Rattle.around.specs.Index.{Indexed};
 ghost use Rattle.templates.specs.Tables.{Template, hexahedron, prism, pyramid, templateOf};
 ghost use Rattle.templates.specs.Flat.{pairs};
 ghost use Rattle.cells.specs.Cells.{isCell, firstFailing};
-ghost use Rattle.cells.specs.Rows.{fours, ownNumbers};
-ghost use Rattle.record.specs.Entries.{tetPlaces};
-ghost use Rattle.filling.specs.Found.{Found};
 ghost use Rattle.counting.specs.Noted.{Lettered};
-ghost use Rattle.verdict.specs.Judged.{TablesOf, lastWith, lastFailing, isSolid, Tells};
+ghost use Rattle.judging.specs.Last.{lastFailing};
+ghost use Rattle.verdict.specs.Judged.{TablesOf, isSolid, Tells, noTets};
 
 mod leaf;
 
@@ -22,15 +19,12 @@ use cells::has_edges;
 use cells::has_faces;
 use cells::is_sound;
 use cells::is_tuple;
-use counting::is_filled;
-use counting::is_one_part;
 use filling::Tets;
 use filling::find;
+use judging::judge_found;
 pub use leaf::is_leaf;
-use own::belongs_to;
 use record::TET_PLACES;
 use record::UNUSED;
-use space::Tet;
 use templates::HEX_EDGES;
 use templates::HEX_INSIDE;
 use templates::HEX_QUADS;
@@ -53,121 +47,9 @@ pub struct Verdict {
     pub tets: Tets,
 }
 
-// ---- conditions 5 and 6: 5 or 6, whichever fails first, or 0
+// ---- the first condition that fails
 
-// By the tetrahedra listed, with room for 8 entries a tetrahedron.
-fn judge_list(
-    labels: &[u16],
-    parts: &[u16],
-    list: &[u16],
-    c: &[u16],
-    triangles: &[u8],
-    quads: &[u8],
-    within: &[u8],
-    has: &mut [u8],
-) -> u8
-    requires { ⌜ Within (length (now labels) / 4) (now list) × Within (length (now parts)) (now list) ⌝ }
-    requires { ⌜ (length (now has) ≡ 8 * length (now list)) × Lettered (now triangles) (now quads) (now within) ⌝ }
-    ensures { λ r. ⌜ r ≡ lastWith (now (labels .entry)) (now (parts .entry)) (now (list .entry)) (now (c .entry)) (now (triangles .entry)) (now (quads .entry)) (now (within .entry)) ⌝ }
-{
-    if !is_filled(labels, list, c, triangles, quads, within, has) {
-        return 5;
-    }
-    if !is_one_part(parts, list) {
-        return 6;
-    }
-    0
-}
-
-// Of a cell with more tetrahedra than a record has places: they are all gathered first.
-fn judge_many(
-    labels: &[u16],
-    parts: &[u16],
-    c: &[u16],
-    triangles: &[u8],
-    quads: &[u8],
-    within: &[u8],
-) -> u8
-    requires { ⌜ (length (now labels) / 4 ≤ 2048) × (length (now parts) ≡ length (now labels) / 4) ⌝ }
-    requires { ⌜ Lettered (now triangles) (now quads) (now within) ⌝ }
-    ensures { λ r. ⌜ r ≡ lastFailing (now (labels .entry)) (now (parts .entry)) (now (c .entry)) (now (triangles .entry)) (now (quads .entry)) (now (within .entry)) ⌝ }
-{
-    let t = labels.len() / 4;
-    let mut list = [65535u16; 2048];
-    let mut k: usize = 0;
-    let mut i: usize = 0;
-    while i < t {
-        if belongs_to(labels, Tet(i as u16), c, quads) {
-            list[k] = i as u16;
-            k += 1;
-        }
-        i += 1;
-    }
-    let mut has = [0u8; 16384];
-    judge_list(
-        labels,
-        parts,
-        &list[..k],
-        c,
-        triangles,
-        quads,
-        within,
-        &mut has[..8 * k],
-    )
-}
-
-// Of a cell all of whose tetrahedra stand in the list that was found.
-fn judge_few(
-    labels: &[u16],
-    parts: &[u16],
-    found: Tets,
-    c: &[u16],
-    triangles: &[u8],
-    quads: &[u8],
-    within: &[u8],
-) -> u8
-    requires { ⌜ Found (ownNumbers (now labels) (fours (now quads)) (now c)) found × ((found .count ≤ tetPlaces) × (length (now parts) ≡ length (now labels) / 4)) ⌝ }
-    requires { ⌜ Lettered (now triangles) (now quads) (now within) ⌝ }
-    ensures { λ r. ⌜ r ≡ lastFailing (now (labels .entry)) (now (parts .entry)) (now (c .entry)) (now (triangles .entry)) (now (quads .entry)) (now (within .entry)) ⌝ }
-{
-    let k = found.count;
-    let list = found.list;
-    let mut has = [0u8; 8 * TET_PLACES];
-    judge_list(
-        labels,
-        parts,
-        &list[..k],
-        c,
-        triangles,
-        quads,
-        within,
-        &mut has[..8 * k],
-    )
-}
-
-// Of a cell whose tetrahedra were found.
-fn judge_found(
-    labels: &[u16],
-    parts: &[u16],
-    found: Tets,
-    c: &[u16],
-    triangles: &[u8],
-    quads: &[u8],
-    within: &[u8],
-) -> u8
-    requires { ⌜ Found (ownNumbers (now labels) (fours (now quads)) (now c)) found ⌝ }
-    requires { ⌜ (length (now labels) / 4 ≤ 2048) × (length (now parts) ≡ length (now labels) / 4) ⌝ }
-    requires { ⌜ Lettered (now triangles) (now quads) (now within) ⌝ }
-    ensures { λ r. ⌜ r ≡ lastFailing (now (labels .entry)) (now (parts .entry)) (now (c .entry)) (now (triangles .entry)) (now (quads .entry)) (now (within .entry)) ⌝ }
-{
-    if found.count <= TET_PLACES {
-        judge_few(labels, parts, found, c, triangles, quads, within)
-    } else {
-        judge_many(labels, parts, c, triangles, quads, within)
-    }
-}
-
-// Of a tuple.
+// Of conditions 5 and 6, for a tuple: 5, 6 or 0.
 fn judge_tets(
     labels: &[u16],
     parts: &[u16],
@@ -186,8 +68,6 @@ fn judge_tets(
     let found = find(labels, n, offsets, entries, c, quads);
     judge_found(labels, parts, found, c, triangles, quads, within)
 }
-
-// ---- all six
 
 // For whatever template these tables are of; `within` are the triples on no face.
 fn judge_by(
@@ -363,15 +243,17 @@ pub fn judge(
 // ---- whether a tuple is a cell
 
 // No tetrahedra, where none are asked for.
-pub fn no_tets() -> Tets {
+pub fn no_tets() -> Tets
+    ensures { λ r. ⌜ r ≡ noTets ⌝ }
+{
     Tets {
         count: 0,
         list: [UNUSED; TET_PLACES],
     }
 }
 
-pub fn no() -> Verdict
-    ensures { λ r. ⌜ r .yes ≡ false ⌝ }
+fn no() -> Verdict
+    ensures { λ r. ⌜ r ≡ record { yes = false; tets = noTets } ⌝ }
 {
     Verdict {
         yes: false,

@@ -6,7 +6,7 @@ use Rattle.space.specs.Arrays.{meshOf}
 use Rattle.cells.specs.Cells.{isFilled, isOnePart}
 use Rattle.verdict.specs.Judged.{isSolid}
 use Rattle.verdict.proofs.Tables.{tuple-is, sound-is, numbers-is, last-is}
-use Rattle.verdict.proofs.Numbers.{found-as}
+use Rattle.judging.proofs.Numbers.{found-as}
 use Rattle.verdict.proofs.Solid.{last-two, tells-no}
 use borrow.Author.Needs.{needs}
 use Rattle.verdict.proofs.is_solid.Statement.{statement}
@@ -22,7 +22,7 @@ returns : tie.Need-returns
 unfolding isSolid
 returns c = λ t w.
     let s = c .before .before .before .before .before .before .before .before .before .before .before .before in
-    tells-no (c .no .ensures) (first-fails (c .before .before .is-tuple .ensures ∙ tuple-is (s .args .coords .now) (s .args .labels .now) (s .args .parts .now) (s .args .c .now) w) (c .before .if1 .taken) _ _)
+    tells-no (ap (λ v. v .yes) (c .no .ensures)) (first-fails (c .before .before .is-tuple .ensures ∙ tuple-is (s .args .coords .now) (s .args .labels .now) (s .args .parts .now) (s .args .c .now) w) (c .before .if1 .taken) _ _)
 
 is-sound-requires : tie.Need-is-sound-requires
 is-sound-requires c κs = search needs
@@ -34,7 +34,7 @@ returns-2 : tie.Need-returns-2
 unfolding isSolid
 returns-2 c = λ t w.
     let s = c .before .before .before .before .before .before .before .before .before .before .before .before .before .before in
-    tells-no (c .no2 .ensures)
+    tells-no (ap (λ v. v .yes) (c .no2 .ensures))
     (second-fails (c .before .before .before .before .is-tuple .ensures ∙ tuple-is (s .args .coords .now) (s .args .labels .now) (s .args .parts .now) (s .args .c .now) w) (c .before .before .before .if1 .left)
     (c .before .before .is-sound .ensures ∙ sound-is (s .args .coords .now) (s .args .labels .now) (s .args .parts .now) (s .args .c .now) w) (c .before .if2 .taken) _)
 

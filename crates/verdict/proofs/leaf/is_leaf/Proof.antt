@@ -9,7 +9,7 @@ use Rattle.templates.specs.Least.{isLeast}
 use Rattle.templates.proofs.Fronts.{letters-front}
 use Rattle.cells.specs.Cells.{isCell, numbersOf}
 use Rattle.rule.specs.Rule.{isLeaf, cellAt}
-use Rattle.verdict.proofs.Numbers.{found-as}
+use Rattle.judging.proofs.Numbers.{found-as}
 use borrow.Author.Needs.{needs}
 use Rattle.verdict.proofs.leaf.is_leaf.Statement.{statement}
 use Rattle.verdict.proofs.leaf.is_leaf.Tie as tie
@@ -32,7 +32,8 @@ returns c =
     let a = c .before .before .before .before .before .before .before .before .before .args in
     let t = templateOf (a .kind) in
     let l : take (t .corners) (c .before .before .before .before .letters .result) ≡ at (a .s) (t .places) = ap (take (t .corners)) (c .before .before .before .before .letters .ensures) ∙ letters-front (a .kind) (a .s) in
-    (c .no .ensures ∙ and-fails (c .before .before .is-least .ensures ∙ ap (isLeast t) l) (c .before .if1 .taken) _, λ y. absurd (true≢false (sym y ∙ c .no .ensures)))
+    let n = ap (λ v. v .yes) (c .no .ensures) in
+    (n ∙ and-fails (c .before .before .is-least .ensures ∙ ap (isLeast t) l) (c .before .if1 .taken) _, λ y. absurd (true≢false (sym y ∙ n)))
 
 is-cell-requires : tie.Need-is-cell-requires
 is-cell-requires c κs = search needs

@@ -1,4 +1,4 @@
--- `verdict::judge_many` meets its contract. Assumes nothing.
+-- `judging::judge_many` meets its contract. Assumes nothing.
 use mathlib.Core.Path.{_≡_, refl, sym, _∙_, ap}
 use mathlib.Core.Logic.{⊎-elim}
 use Prim.Native.Nat.{_/_, _-_, _≤_}
@@ -6,10 +6,10 @@ use lib.ListN.{length, replicate, length-take}
 use lib.Seq.{length-take-le}
 use native.Mathlib.Omega.{arith}
 use Rattle.cells.specs.Rows.{fours, owns}
-use Rattle.verdict.specs.Judged.{lastWith}
-use Rattle.verdict.proofs.Numbers.{Gathered, gather-start, gather-take, gather-skip, gathered-all, listed-within, room-is}
-use Rattle.verdict.proofs.judge_many.Statement.{statement}
-use Rattle.verdict.proofs.judge_many.Tie as tie
+use Rattle.judging.specs.Last.{lastWith}
+use Rattle.judging.proofs.Numbers.{Gathered, gather-start, gather-take, gather-skip, gathered-all, listed-within, room-is}
+use Rattle.judging.proofs.judge_many.Statement.{statement}
+use Rattle.judging.proofs.judge_many.Tie as tie
 
 abbrev Inv-loop : tie.InvT-loop
 Inv-loop labels parts c triangles quads within t list₀ k₀ i₀ list k i = (t ≡ length labels / 4) × ((i ≤ t) × Gathered (owns labels (fours quads) c) i list k)

@@ -1,10 +1,10 @@
--- `verdict::judge_list` meets its contract. Assumes nothing.
+-- `judging::judge_list` meets its contract. Assumes nothing.
 use mathlib.Core.Path.{sym, _∙_}
 use borrow.Author.Tests.{not-true, not-false}
-use Rattle.verdict.specs.Judged.{lastWith}
+use Rattle.judging.specs.Last.{lastWith}
 use borrow.Author.Needs.{needs}
-use Rattle.verdict.proofs.judge_list.Statement.{statement}
-use Rattle.verdict.proofs.judge_list.Tie as tie
+use Rattle.judging.proofs.judge_list.Statement.{statement}
+use Rattle.judging.proofs.judge_list.Tie as tie
 
 is-filled-requires : tie.Need-is-filled-requires
 is-filled-requires c κs = search needs

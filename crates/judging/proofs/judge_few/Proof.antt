@@ -1,4 +1,4 @@
--- `verdict::judge_few` meets its contract. Assumes nothing.
+-- `judging::judge_few` meets its contract. Assumes nothing.
 use Prim.Native.Nat.{_*_}
 use mathlib.Core.Path.{sym, _∙_, ap}
 use lib.ListN.{replicate, length-take}
@@ -7,11 +7,11 @@ use native.Mathlib.Omega.{arith}
 use Rattle.cells.specs.Rows.{fours}
 use Rattle.record.specs.Entries.{tetPlaces}
 use Rattle.filling.proofs.Found.{found-all, listed}
-use Rattle.verdict.specs.Judged.{lastWith}
-use Rattle.verdict.proofs.Numbers.{listed-within, room-is}
+use Rattle.judging.specs.Last.{lastWith}
+use Rattle.judging.proofs.Numbers.{listed-within, room-is}
 use borrow.Author.Needs.{needs}
-use Rattle.verdict.proofs.judge_few.Statement.{statement}
-use Rattle.verdict.proofs.judge_few.Tie as tie
+use Rattle.judging.proofs.judge_few.Statement.{statement}
+use Rattle.judging.proofs.judge_few.Tie as tie
 
 array-share-prefix-list : tie.Need-array-share-prefix-list
 array-share-prefix-list c = let s = c .before .before .before .before .before .before .before in omega (arith, listed (s .pre .0 .0))
