@@ -24,8 +24,11 @@ use Rattle.portions.proofs.Loop.{portion-short, portion-none, portion-full, por
 use Rattle.rule.specs.Rule.{tetRule}
 use Rattle.rule.proofs.Full.{lawful, full-sane}
 use Rattle.following.specs.Following.{Came}
+use Rattle.records.specs.declared.Answer.{Answer}
 use Rattle.records.specs.declared.Answer.the-variants.{Refused, Given}
-use Rattle.records.specs.Marks.{Written}
+use Rattle.records.specs.declared.Reached.{Reached}
+use Rattle.records.specs.declared.Reached.the-variants.{Full, Ended, Long}
+use Rattle.records.specs.Marks.{Written, Filled, Reaches}
 
 -- ── the cell that was found ──
 
@@ -81,3 +84,20 @@ module _ (m : Mesh) where
     come-on {l′ = l′} n y h o d =
         subst (λ q. Come tetRule (fullList m) k old q (i + 1) l′) (n .marked y)
         (come-step tetRule (fullList m) (lawful m) x (n .next) y h (fits-few m n y o) (laid-as d (ap entries (came-told m n y o))))
+
+-- ── the answer ──
+
+module _ (m : Mesh) {k old l : List ℕ} {p : Reached} (x : Reaches m k old p l) {i : ℕ} where
+  pub filled-full : {j : Mark} {left : Bool} {a : Answer} → p ≡ Full i j → tetRule .size ≤ length old → left ≡ remains tetRule (fullList m) (markOf j) → Filled i left j a → Written m k old a l
+  filled-full {j} {left} {a} e wide n f = go left refl (subst (λ q. Reaches m k old q l) e x)
+    where
+      go : (b : Bool) → left ≡ b → Reaches m k old (Full i j) l → Written m k old a l
+      go true t y = subst (λ z. Written m k old z l) (sym (f .on t)) (written-full m (y .0) wide n j refl t (y .1))
+      go false t y = subst (λ z. Written m k old z l) (sym (f .ends t .0)) (written-none m (y .0) wide n (f .mark) (f .ends t .1) t)
+
+  pub filled-end : {j : Mark} {a : Answer} → p ≡ Ended i → Filled i false j a → Written m k old a l
+  filled-end e f =
+      subst (λ z. Written m k old z l) (sym (f .ends refl .0)) (subst (λ q. Reaches m k old q l) e x (f .mark) (f .ends refl .1))
+
+  pub filled-long : p ≡ Long i → Written m k old (Refused 12 i) l
+  filled-long e = subst (λ q. Reaches m k old q l) e x

@@ -7,13 +7,15 @@ use record::TET_PLACES;
 use record::end_mark;
 use record::put_record;
 ghost use mathlib.Core.Path.{_≡_};
-ghost use Prim.Native.Nat.{_/_};
+ghost use Prim.Native.Nat.{_/_, _≤_};
 ghost use lib.ListN.{length};
 ghost use Rattle.space.specs.Arrays.{meshOf};
+ghost use Rattle.record.specs.Entries.{recordSize};
 ghost use Rattle.record.specs.Marks.{markOf};
 ghost use Rattle.levels.specs.Levels.{levels};
 ghost use Rattle.search.specs.Ready.{Ready};
-ghost use Rattle.records.specs.Marks.{Written};
+ghost use Rattle.records.specs.declared.Answer.the-variants.{Refused};
+ghost use Rattle.records.specs.Marks.{Written, Filled, Reaches};
 
 // A refusal by its number, with how many records were written before it: only 12, where the next cell has more tetrahedra
 // than a record can hold, comes after any.
@@ -29,7 +31,92 @@ pub enum Answer {
     },
 }
 
-// Writes the records of the cells after the mark, as many as the room holds. Where the room is full it is asked whether any cell is left: so the end is told with the last cell.
+fn refused(number: u8, written: usize) -> Answer
+    ensures { λ r. ⌜ r ≡ Refused number written ⌝ }
+{
+    Answer::Refused { number, written }
+}
+
+// How far the records came, and how many there are: the room is full, no cell is left, or the next one is too long for a record.
+pub enum Reached {
+    Full { count: usize, mark: Mark },
+    Ended { count: usize },
+    Long { count: usize },
+}
+
+// Writes the records of the cells after the mark, as many as the room holds.
+fn write_up(
+    tables: &[u8],
+    coords: &[i64],
+    labels: &[u16],
+    parts: &[u16],
+    n: usize,
+    offsets: &[u16],
+    entries: &[u16],
+    marks: &[u8],
+    table: &[u16],
+    mark: Mark,
+    records: &mut [u16],
+) -> Reached
+    requires { ⌜ now tables ≡ levels ⌝ }
+    requires { ⌜ Ready (now coords) (now labels) n (now offsets) (now entries) (now marks) (now table) × (length (now parts) ≡ length (now labels) / 4) ⌝ }
+    requires { ⌜ recordSize ≤ length (now records) ⌝ }
+    ensures { λ r. ⌜ Reaches (meshOf (now (coords .entry)) (now (labels .entry)) (now (parts .entry))) (markOf mark) (now (records .entry)) r (now (records .exit)) ⌝ }
+{
+    let most = records.len() / SIZE;
+    let mut i: usize = 0;
+    let mut k = mark;
+    while i < most {
+        let s = next_cell(
+            tables,
+            coords,
+            labels,
+            parts,
+            n,
+            offsets,
+            entries,
+            marks,
+            table,
+            k,
+            0 < i,
+        );
+        if !s.found {
+            return Reached::Ended { count: i };
+        }
+        let c = s.mark;
+        let tets = s.tets;
+        if TET_PLACES < tets.count {
+            return Reached::Long { count: i };
+        }
+        let list = tets.list;
+        put_record(records, i, c, tets.count, list);
+        i += 1;
+        k = c;
+    }
+    Reached::Full { count: i, mark: k }
+}
+
+// The answer for a room that was filled up to a mark: the end where no cell is left behind it.
+fn filled(count: usize, left: bool, mark: Mark) -> Answer
+    ensures { λ r. ⌜ Filled count left mark r ⌝ }
+{
+    if left {
+        Answer::Given {
+            count,
+            none_remain: false,
+            mark,
+        }
+    } else {
+        Answer::Given {
+            count,
+            none_remain: true,
+            mark: end_mark(),
+        }
+    }
+}
+
+// Writes the records of the cells after the mark, as many as the room holds. Where the room is full it is asked whether any cell is left: so the
+// end is told with the last cell.
 pub fn write_cells(
     tables: &[u8],
     coords: &[i64],
@@ -48,17 +135,24 @@ pub fn write_cells(
     ensures { λ r. ⌜ Written (meshOf (now (coords .entry)) (now (labels .entry)) (now (parts .entry))) (markOf mark) (now (records .entry)) r (now (records .exit)) ⌝ }
 {
     if records.len() < SIZE {
-        return Answer::Refused {
-            number: 11,
-            written: 0,
-        };
+        return refused(11, 0);
     }
-    let most = records.len() / SIZE;
-    let mut i: usize = 0;
-    let mut k = mark;
-    loop {
-        if i == most {
-            if is_any_left(
+    let far = write_up(
+        tables,
+        coords,
+        labels,
+        parts,
+        n,
+        offsets,
+        entries,
+        marks,
+        table,
+        mark,
+        records,
+    );
+    match far {
+        Reached::Full { count, mark } => {
+            let left = is_any_left(
                 tables,
                 coords,
                 labels,
@@ -68,51 +162,11 @@ pub fn write_cells(
                 entries,
                 marks,
                 table,
-                k,
-            ) {
-                return Answer::Given {
-                    count: i,
-                    none_remain: false,
-                    mark: k,
-                };
-            }
-            return Answer::Given {
-                count: i,
-                none_remain: true,
-                mark: end_mark(),
-            };
+                mark,
+            );
+            filled(count, left, mark)
         }
-        let s = next_cell(
-            tables,
-            coords,
-            labels,
-            parts,
-            n,
-            offsets,
-            entries,
-            marks,
-            table,
-            k,
-            0 < i,
-        );
-        if !s.found {
-            return Answer::Given {
-                count: i,
-                none_remain: true,
-                mark: end_mark(),
-            };
-        }
-        let c = s.mark;
-        let tets = s.tets;
-        if TET_PLACES < tets.count {
-            return Answer::Refused {
-                number: 12,
-                written: i,
-            };
-        }
-        let list = tets.list;
-        put_record(records, i, c, tets.count, list);
-        i += 1;
-        k = c;
+        Reached::Ended { count } => filled(count, false, mark),
+        Reached::Long { count } => refused(12, count),
     }
 }
