@@ -28,9 +28,9 @@ use Rattle.record.specs.Marks.{markOf, letters}
 use Rattle.records.specs.declared.Answer.{Answer}
 use Rattle.records.specs.declared.Answer.the-variants.{Refused, Given}
 use Rattle.records.specs.Marks.{says, answerNumber}
-use Rattle.listing.specs.Portion.{barred, portionBy, Promised}
+use Rattle.portioning.specs.Portion.{barred, portionBy, Promised}
 use Rattle.listing.specs.Demands.{Demand2, Demand3, Called, none, last, more}
-use Rattle.listing.proofs.Promised.{bars-none}
+use Rattle.portioning.proofs.Promised.{bars-none}
 use Rattle.listing.proofs.File.{accepted-passed}
 
 -- ---- a call that is not refused early

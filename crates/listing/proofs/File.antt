@@ -13,8 +13,8 @@ use Rattle.neighbours.specs.Table.{tableOf}
 use Rattle.neighbours.proofs.Whole.{enough}
 use Rattle.records.specs.declared.Answer.{Answer}
 use Rattle.records.specs.declared.Answer.the-variants.{Refused}
-use Rattle.listing.specs.Portion.{Promised, Portioned}
-use Rattle.listing.proofs.Promised.{bars-file, promised-refused, promised-past}
+use Rattle.portioning.specs.Portion.{Promised, Portioned}
+use Rattle.portioning.proofs.Promised.{bars-file, promised-refused, promised-past}
 
 module _ (f : List ℕ) where
   pub accepted-passed : refusal f ≡ 0 → Passed (refusals f)

@@ -1,5 +1,3 @@
-pub mod Promised
 pub mod Refusals
-pub mod Filled
 pub mod File
 pub mod Demands

@@ -21,8 +21,8 @@ use Rattle.record.specs.Entries.{recordSize}
 use Rattle.records.specs.declared.Answer.{Answer}
 use Rattle.records.specs.declared.Answer.the-variants.{Refused, Given}
 use Rattle.records.specs.Marks.{says, answerNumber}
-use Rattle.listing.specs.Portion.{barred, portionBy, tableLeft, Promised}
-use Rattle.listing.proofs.Promised.{bars-file, bars-table, bars-room}
+use Rattle.portioning.specs.Portion.{barred, portionBy, tableLeft, Promised}
+use Rattle.portioning.proofs.Promised.{bars-file, bars-table, bars-room}
 
 -- what is said tells the number
 said : (a : Answer) {y : ℕ} → says a ≡ refused y → answerNumber a ≡ y

@@ -20,7 +20,7 @@ use Rattle.record.specs.Marks.{markOf}
 use Rattle.records.specs.declared.Answer.{Answer}
 use Rattle.records.specs.declared.Answer.the-variants.{Given}
 use Rattle.records.specs.Marks.{says, answerNumber}
-use Rattle.listing.specs.Portion.{Portioned}
+use Rattle.portioning.specs.Portion.{Portioned}
 
 -- ---- demand 2
 

@@ -1,2 +1,1 @@
-pub mod Portion
 pub mod Demands

@@ -14,7 +14,7 @@ use Rattle.records.specs.declared.Answer.{Answer}
 use Rattle.records.specs.declared.Answer.the-variants.{Refused as Barred, Given}
 use Rattle.record.specs.Marks.{markOf, nine}
 use Rattle.records.specs.Marks.{answerNumber}
-use Rattle.listing.specs.Portion.{Portioned}
+use Rattle.portioning.specs.Portion.{Portioned}
 use Rattle.templates.specs.declared.Least.{Least}
 use Rattle.templates.specs.declared.Least.the-variants.{Form, Refused as NoForm}
 

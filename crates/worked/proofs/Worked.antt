@@ -28,8 +28,8 @@ use Rattle.record.specs.Entries.{entries}
 use Rattle.rule.specs.Rule.{key, tetRule}
 use Rattle.records.specs.declared.Answer.{Answer}
 use Rattle.records.specs.Marks.{says}
-use Rattle.listing.specs.Portion.{barred, portionBy, tableLeft, Portioned}
-use Rattle.listing.proofs.Promised.{bars-file, bars-past}
+use Rattle.portioning.specs.Portion.{barred, portionBy, tableLeft, Portioned}
+use Rattle.portioning.proofs.Promised.{bars-file, bars-past}
 use Rattle.listing.proofs.File.{accepted-passed}
 use Rattle.worked.specs.Rows.{fileP, fileC, mixed, turned, tableP, tableC, Reply, left, formed, calling, least, ask, Worked}
 

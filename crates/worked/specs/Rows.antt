@@ -14,7 +14,7 @@ use Rattle.templates.specs.Least.{leastForm, leastNumber}
 use Rattle.once.specs.Rows.{listC}
 use Rattle.portions.specs.Portions.{Answer, refused, given, records}
 use Rattle.rule.specs.Rule.{tetRule}
-use Rattle.listing.specs.Portion.{portionBy, tableLeft, roomLeft}
+use Rattle.portioning.specs.Portion.{portionBy, tableLeft, roomLeft}
 
 -- ---- the files
 

@@ -3,7 +3,7 @@ use mathlib.Core.Path.{_≡_}
 use mathlib.Core.List.{List}
 use Prim.Native.Nat.{ℕ}
 use Rattle.records.specs.declared.Answer.{Answer}
-use Rattle.listing.specs.Portion.{Portioned}
+use Rattle.portioning.specs.Portion.{Portioned}
 use borrow.Author.Needs.{needs}
 use Rattle.opalcrumb.proofs.opalcrumb_portion.Statement.{statement}
 use Rattle.opalcrumb.proofs.opalcrumb_portion.Tie as tie

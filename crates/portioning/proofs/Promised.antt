@@ -19,7 +19,7 @@ use Rattle.records.specs.declared.Answer.{Answer}
 use Rattle.records.specs.declared.Answer.the-variants.{Refused}
 use Rattle.records.specs.Marks.{Written}
 use Rattle.records.proofs.Same.{answer-same}
-use Rattle.listing.specs.Portion.{barred, portionBy, tableLeft, Promised}
+use Rattle.portioning.specs.Portion.{barred, portionBy, tableLeft, Promised}
 
 -- 10 and 11
 abbrev ofRooms : Mesh → ℕ → ℕ → ℕ → List Refusal

@@ -1,4 +1,4 @@
--- `listing::portion_of` meets its contract. Assumes nothing.
+-- `portioning::portion_of` meets its contract. Assumes nothing.
 use mathlib.Core.Path.{sym, _∙_}
 use mathlib.Core.List.{[]}
 use native.Mathlib.Omega.{arith}
@@ -6,11 +6,11 @@ use borrow.Author.Tests.{leb-true, leb-false}
 use lib.ListN.{length}
 use Rattle.space.specs.Arrays.{meshOf}
 use Rattle.record.specs.Entries.{recordSize}
-use Rattle.listing.proofs.Promised.{bars-table, bars-room, bars-none, promised-refused, promised-written}
-use Rattle.listing.proofs.Filled.{says-short, says-long, stays-short, filled-long, tabled}
+use Rattle.portioning.proofs.Promised.{bars-table, bars-room, bars-none, promised-refused, promised-written}
+use Rattle.portioning.proofs.Filled.{says-short, says-long, stays-short, filled-long, tabled}
 use borrow.Author.Needs.{needs}
-use Rattle.listing.proofs.portion_of.Statement.{statement}
-use Rattle.listing.proofs.portion_of.Tie as tie
+use Rattle.portioning.proofs.portion_of.Statement.{statement}
+use Rattle.portioning.proofs.portion_of.Tie as tie
 
 is-roomy-requires : tie.Need-is-roomy-requires
 is-roomy-requires c κs = search needs
