@@ -13,7 +13,7 @@ use levels::joined_of;
 use levels::third_of;
 use neighbours::row_of;
 use space::Vertex;
-use templates::corners_of;
+use order::corners_of;
 use verdict::is_leaf;
 use verdict::no_tets;
 ghost use mathlib.Core.Path.{_≡_};
