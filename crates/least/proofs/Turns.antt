@@ -1,5 +1,5 @@
--- The rows of the rotation tables: each is an arrangement of the corners that takes edges to edges, faces to faces and each corner
--- with its neighbours to a corner with its neighbours, in the same hand. One computed test says so of all rows.
+-- The rows of the rotation tables: each is an arrangement of the corners that takes edges to edges, faces to faces and
+-- each corner with its neighbours to a corner with its neighbours, in the same hand. One computed test says so of all.
 -- Assumes nothing.
 use Prim.Native.Nat.{ℕ, _<_}
 use mathlib.Core.Path.{_≡_, refl, sym, _∙_, ap}

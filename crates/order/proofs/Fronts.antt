@@ -1,4 +1,4 @@
--- A tuple in the other order: filled up with 0 it is the tuple turned by its kind's row, and of it the first are the tuple.
+-- A tuple in the other order: filled up with 0 it is the tuple turned by its kind's row; its first are the tuple.
 -- Assumes nothing.
 use Prim.Native.Nat.{ℕ}
 use mathlib.Core.Path.{_≡_, refl, sym, _∙_, ap}

@@ -1,4 +1,4 @@
--- Laws of tests over lists: a test over a list that another list covers, the corners of a turned tuple, and distinct numbers.
+-- Laws of tests over lists: a test over a list that another covers, the corners of a turned tuple, distinct numbers.
 -- Assumes nothing.
 use Prim.Native.Nat.{ℕ, zero, suc, _<_, _≤_, _+_}
 use mathlib.Core.Path.{_≡_, refl, sym, _∙_, ap, ap₂}

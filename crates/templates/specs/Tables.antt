@@ -1,4 +1,5 @@
--- The templates: of each kind the edges, the faces, the corner triples, the search order and the rotations. Corners a to h are 0 to 7.
+-- The templates: of each kind the edges, the faces, the corner triples, the search order and the rotations.
+-- Corners a to h are 0 to 7.
 -- Assumes nothing.
 use Prim.Native.Nat.{ℕ}
 use mathlib.Core.Bool.{Bool, cond, _||_}
