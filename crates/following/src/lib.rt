@@ -1,11 +1,11 @@
 // The first cell after a mark, over the three kinds, and whether any is left.
 use filling::Tets;
 use glance::sees;
+use order::letters;
+use order::ordered;
 use record::Mark;
 use record::end_mark;
 use search::next;
-use templates::letters;
-use templates::ordered;
 use verdict::no_tets;
 ghost use mathlib.Core.Path.{_≡_};
 ghost use mathlib.Core.Bool.{false};

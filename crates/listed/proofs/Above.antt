@@ -14,7 +14,7 @@ use Rattle.base.proofs.Lists.{both-left, all-at}
 use Rattle.base.proofs.Members.{from-has}
 use Rattle.space.specs.Arrays.{meshOf}
 use Rattle.templates.specs.Tables.{templateOf, at}
-use Rattle.templates.specs.Least.{isLeast}
+use Rattle.least.specs.Least.{isLeast}
 use Rattle.rule.specs.Rule.{isLeaf}
 use Rattle.levels.specs.Levels.{base, lesser}
 use Rattle.listed.proofs.Leaves.{aboveAll, least-is}

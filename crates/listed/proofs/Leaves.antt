@@ -9,7 +9,7 @@ use lib.Dec.{eqb, ltb}
 use lib.ListN.{length, getD, take}
 use Rattle.base.specs.Lists.{all, upTo}
 use Rattle.templates.specs.Tables.{hexahedron, prism, pyramid, templateOf, at}
-use Rattle.templates.specs.Least.{rises, risesAt, isLeast}
+use Rattle.least.specs.Least.{rises, risesAt, isLeast}
 use Rattle.levels.specs.Levels.{base, lesser}
 use Rattle.levels.proofs.Fresh.{take-front}
 

@@ -12,8 +12,9 @@ use Rattle.base.specs.Lists.{all, keep, spread, from, upTo, distinct}
 use Rattle.templates.specs.Tables.{Place}
 use Rattle.cells.specs.Full.{grow}
 use Rattle.base.proofs.Lists.{both-left, both-right, all-at, all-from, keep-spread, spread-keep}
-use Rattle.templates.proofs.Tests.{both, mem-from, from-less}
-use Rattle.templates.proofs.OneLeast.{pairwise, keep-none}
+use Rattle.base.proofs.Members.{from-at, from-has}
+use Rattle.templates.proofs.Tests.{both}
+use Rattle.least.proofs.OneLeast.{pairwise, keep-none}
 
 -- ---- members
 
@@ -103,7 +104,7 @@ module _ (ok : Place → List ℕ → ℕ → Bool) (n : ℕ) where
       let v = mem-spread (λ v. grow ok n ps (s ++ (v ∷ []))) (keep (ok p s) (upTo n)) h in
       let k = mem-keep (ok p s) (upTo n) (v .1) in
       let r = grow-mem ps (s ++ (v .0 ∷ [])) (v .2) in
-      (v .0 ∷ r .0, r .1 ∙ append-assoc s (v .0 ∷ []) (r .0), both _ _ (both _ _ (lt-ltb (v .0) n (omega (arith, from-less 0 n (v .0) (k .0)))) (k .1)) (r .2))
+      (v .0 ∷ r .0, r .1 ∙ append-assoc s (v .0 ∷ []) (r .0), both _ _ (both _ _ (lt-ltb (v .0) n (omega (arith, from-at 0 n (k .0) .1))) (k .1)) (r .2))
 
   pub grow-once : (P : List ℕ → Bool) (ps : List Place) (s u : List ℕ) → fits ps s u ≡ true → P (s ++ u) ≡ true → ((x : List ℕ) → fits ps s x ≡ true → P (s ++ x) ≡ true → x ≡ u) → keep P (grow ok n ps s) ≡ (s ++ u) ∷ []
   unfolding grow fits keep differ
@@ -113,7 +114,7 @@ module _ (ok : Place → List ℕ → ℕ → Bool) (n : ℕ) where
   grow-once P (p ∷ ps) s (v ∷ u) f e one =
       keep-spread P (λ w. grow ok n ps (s ++ (w ∷ []))) (keep (ok p s) (upTo n))
       ∙ spread-keep (λ w. keep P (grow ok n ps (s ++ (w ∷ [])))) (ok p s) (upTo n)
-      ∙ spread-only found differ (upTo n) (from-apart 0 n) (mem-from 0 n v (omega arith) (omega (arith, ltb-true v n (both-left _ _ g)))) none
+      ∙ spread-only found differ (upTo n) (from-apart 0 n) (from-has 0 n v (omega arith) (omega (arith, ltb-true v n (both-left _ _ g)))) none
       ∙ ap (λ b. cond b (keep P (grow ok n ps (s ++ (v ∷ [])))) []) (both-right (ltb v n) _ g)
       ∙ grow-once P ps (s ++ (v ∷ [])) u (both-right (ltb v n && ok p s v) _ f) (ap P (append-assoc s (v ∷ []) u) ∙ e)
       (λ x h q. let z = one (v ∷ x) (both _ _ g h) (ap P (sym (append-assoc s (v ∷ []) x)) ∙ q) in cc)
@@ -138,4 +139,4 @@ module _ (ok : Place → List ℕ → ℕ → Bool) (n : ℕ) where
       apart w (inr q) z = eqb-false w v (not-true (eqb w v) q) z
 
       none : (w : ℕ) → List·Memᴰ w (upTo n) → (differ v w ≡ true) ⊎ (differ w v ≡ true) → found w ≡ []
-      none w k d = other w (omega (arith, from-less 0 n w k)) (apart w d) (ok p s w) refl
+      none w k d = other w (omega (arith, from-at 0 n k .1)) (apart w d) (ok p s w) refl

@@ -11,7 +11,7 @@ use Rattle.space.specs.Box.{isAbove0}
 use Rattle.space.specs.Mesh.{Mesh}
 use Rattle.templates.specs.Tables.{Template, templates, at}
 use Rattle.templates.proofs.Tests.{part, covers}
-use Rattle.templates.proofs.Turns.{cornerTo, odd, tableTests, mirrored}
+use Rattle.least.proofs.Turns.{cornerTo, odd, tableTests, mirrored}
 use Rattle.cells.specs.Cells.{boxAt, isSound}
 use Rattle.once.specs.Turned.{Mirrored}
 use Rattle.once.proofs.Turned.{mirror-at}

@@ -17,14 +17,15 @@ use Rattle.space.specs.Mesh.{Mesh, Tetrahedron}
 use Rattle.cells.specs.Cells.{isCell, belongs, numbersFrom, numbersOf}
 use Rattle.cells.proofs.Conditions.{cell-corners}
 use Rattle.cells.specs.Full.{Cell, cellIn, allowed, grow, universe, cellsOf, fullList}
-use Rattle.templates.specs.Least.{rises, risesAt, isLeast}
+use Rattle.least.specs.Least.{rises, risesAt, isLeast}
 use Rattle.once.specs.Once.{isTurn, none, Once}
 use Rattle.base.proofs.Lists.{both-left, both-right, all-at, any-at, keep-map, keep-spread}
+use Rattle.base.proofs.Members.{all-map}
 use Rattle.base.proofs.Loop.{listed as by-places}
-use Rattle.templates.proofs.Tests.{equal-eq, equal-refl, part, agree, both, any-from, covers, all-over, all-map, inRange, at-at, at-all, distinct-at, at-isIn}
-use Rattle.templates.proofs.Turns.{cornerTests, corners-all, turned-distinct, turned-length, size}
+use Rattle.templates.proofs.Tests.{equal-eq, equal-refl, part, agree, both, any-from, covers, all-over, inRange, at-at, at-all, distinct-at, at-isIn}
+use Rattle.least.proofs.Turns.{cornerTests, corners-all, turned-distinct, turned-length, size}
 use Rattle.once.proofs.Turned.{same}
-use Rattle.templates.proofs.OneLeast.{pairwise, keep-none, identity, one-least, turn-twice, turn-back}
+use Rattle.least.proofs.OneLeast.{pairwise, keep-none, identity, one-least, turn-twice, turn-back}
 use Rattle.once.proofs.Grow.{mem-map, mem-spread, spread-only, mem-keep, keep-mem, keep-keep, fits, grow-mem, grow-once}
 
 -- ---- the rules of the least form, by places

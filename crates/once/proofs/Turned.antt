@@ -16,7 +16,7 @@ use Rattle.space.specs.Mesh.{Mesh, Tetrahedron, point, holds, together}
 use Rattle.space.proofs.Det.{det-on, det-swap}
 use Rattle.templates.specs.Tables.{Template, templates, at}
 use Rattle.templates.proofs.Tests.{equal-eq, part, or-comm, covers, all-over, any-over, inRange, at-at}
-use Rattle.templates.proofs.Turns.{goesTo, cornerTo, even, odd, cornerTests, tableTests, keeps, row-keeps, row-corners, goes-all, goes-any, size, corners-all, corners-any, turned-length, turned-distinct}
+use Rattle.least.proofs.Turns.{goesTo, cornerTo, even, odd, cornerTests, tableTests, keeps, row-keeps, row-corners, goes-all, goes-any, size, corners-all, corners-any, turned-length, turned-distinct}
 use Rattle.cells.specs.Cells.{first, second, corner3, inside, one, noneOrTwo, isTuple, hasEdges, isFacet, isSplit, hasFaces, boxAt, isSound, belongs, tetsOf, numbersFrom, numbersOf, sides, isOnce, isPaired, isCovered, isFilledBy, isFilled, isOnePart, isCell}
 use Rattle.once.specs.Turned.{Same}
 

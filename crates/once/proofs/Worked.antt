@@ -8,8 +8,9 @@ use Rattle.base.specs.Lists.{keep, spread, equal}
 use Rattle.space.specs.Box.{box}
 use Rattle.space.specs.Mesh.{Mesh, together}
 use Rattle.templates.specs.Tables.{hexahedron}
-use Rattle.templates.specs.declared.Least.the-variants.{Form, Refused}
-use Rattle.templates.specs.Least.{rises, risesAt, leastBy, formBy, leastForm}
+use Rattle.turning.specs.declared.Least.the-variants.{Form, Refused}
+use Rattle.least.specs.Least.{rises, risesAt}
+use Rattle.turning.specs.Form.{leastBy, formBy, leastForm}
 use Rattle.cells.specs.Cells.{first, second, corner3, inside, one, noneOrTwo, isTuple, hasEdges, isFacet, isSplit, hasFaces, boxAt, isSound, belongs, tetsOf, numbersFrom, numbersOf, sides, isOnce, isPaired, isCovered, isFilledBy, isFilled, isOnePart, isCell, firstFailing}
 use Rattle.cells.specs.Full.{Cell, cell, allowed, grow}
 use Rattle.once.specs.Pruned.{linked, found, foundAll}

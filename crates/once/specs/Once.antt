@@ -12,7 +12,7 @@ use Rattle.templates.specs.Tables.{Template, templates, at}
 use Rattle.space.specs.Mesh.{Mesh, Tetrahedron}
 use Rattle.cells.specs.Cells.{isCell, belongs, numbersOf}
 use Rattle.cells.specs.Full.{Cell, cellIn, fullList}
-use Rattle.templates.specs.Least.{isLeast}
+use Rattle.least.specs.Least.{isLeast}
 
 -- the entry is a turn of the tuple c of this kind
 unfoldable pub isTurn : Template → List ℕ → Cell → Bool

@@ -10,9 +10,9 @@ use Rattle.base.specs.Lists.{keep, equal}
 use Rattle.space.specs.declared.Point.{Point}
 use Rattle.space.specs.Mesh.{Mesh, Tetrahedron}
 use Rattle.templates.specs.Tables.{Template, hexahedron, pyramid, at}
-use Rattle.templates.specs.declared.Least.{Least}
-use Rattle.templates.specs.declared.Least.the-variants.{Form, Refused}
-use Rattle.templates.specs.Least.{leastForm, leastNumber}
+use Rattle.turning.specs.declared.Least.{Least}
+use Rattle.turning.specs.declared.Least.the-variants.{Form, Refused}
+use Rattle.turning.specs.Form.{leastForm, leastNumber}
 use Rattle.cells.specs.Cells.{boxAt, firstFailing}
 use Rattle.cells.specs.Full.{Cell, cell, cellsOf, fullList}
 

@@ -15,8 +15,8 @@ use Rattle.records.specs.declared.Answer.the-variants.{Refused as Barred, Given
 use Rattle.record.specs.Marks.{markOf, nine}
 use Rattle.records.specs.Marks.{answerNumber}
 use Rattle.portioning.specs.Portion.{Portioned}
-use Rattle.templates.specs.declared.Least.{Least}
-use Rattle.templates.specs.declared.Least.the-variants.{Form, Refused as NoForm}
+use Rattle.turning.specs.declared.Least.{Least}
+use Rattle.turning.specs.declared.Least.the-variants.{Form, Refused as NoForm}
 
 -- the point of three numbers
 abbrev pub pointOf : List ℤ → Point

@@ -7,12 +7,12 @@ use record::numbers_of;
 use records::Answer;
 use space::Boxed;
 use space::Point;
-use templates::Least;
+use turning::Least;
 ghost use mathlib.Core.Path.{_≡_};
 ghost use lib.ListN.{length};
 ghost use Rattle.space.specs.Box.{boxed, boxNumber};
 ghost use Rattle.arrays.specs.Refusals.{refusal};
-ghost use Rattle.templates.specs.Least.{leastForm, leastNumber};
+ghost use Rattle.turning.specs.Form.{leastForm, leastNumber};
 ghost use Rattle.records.specs.Marks.{answerNumber};
 ghost use Rattle.opalcrumb.specs.Boundary.{pointOf, boxLeft, leastLeft, markLeft, countLeft, endLeft, Passed};
 
@@ -77,7 +77,7 @@ pub extern "C" fn opalcrumb_least_form(kind: u16, corners: &[u16; 8], least: &mu
     ensures answer { λ k. ⌜ k ≡ leastNumber (leastForm kind (now (corners .entry))) ⌝ }
     ensures least { λ k. ⌜ now (least .exit) ≡ leastLeft (leastForm kind (now (corners .entry))) (now (least .entry)) ⌝ }
 {
-    let answer = templates::least_form(kind, *corners);
+    let answer = turning::least_form(kind, *corners);
     match answer {
         Least::Form(a, b, c, d, e, f, g, h) => {
             *least = [a, b, c, d, e, f, g, h];

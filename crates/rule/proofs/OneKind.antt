@@ -15,9 +15,9 @@ use Rattle.base.proofs.Loop.{length-up, getD-up}
 use Rattle.base.proofs.Members.{keep-at, keep-has, map-at, map-has}
 use Rattle.space.specs.Mesh.{Mesh}
 use Rattle.templates.specs.Tables.{Template, hexahedron, prism, pyramid, templates, templateOf, at}
-use Rattle.templates.specs.Least.{isLeast, risesAt, rises as risesPair}
+use Rattle.least.specs.Least.{isLeast, risesAt, rises as risesPair}
 use Rattle.templates.proofs.Tests.{agree, both, covers, at-all}
-use Rattle.templates.proofs.Turns.{cornerTests, corners-all, turned-distinct}
+use Rattle.least.proofs.Turns.{cornerTests, corners-all, turned-distinct}
 use Rattle.cells.specs.Cells.{isCell}
 use Rattle.cells.proofs.Conditions.{cell-corners}
 use Rattle.cells.specs.Full.{Cell, cellIn, allowed, grow, universe, cellsOf}

@@ -8,7 +8,7 @@ use lib.Dec.{eqb, ltb}
 use lib.ListN.{replicate}
 use Rattle.space.specs.Mesh.{Mesh}
 use Rattle.templates.specs.Tables.{Place, Template, templateOf, at}
-use Rattle.templates.specs.Least.{isLeast}
+use Rattle.least.specs.Least.{isLeast}
 use Rattle.cells.specs.Cells.{isCell}
 use Rattle.cells.specs.Full.{Cell, cellIn, allowed}
 use Rattle.record.specs.Entries.{recordSize, entries, fits}

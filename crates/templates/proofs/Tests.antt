@@ -1,4 +1,4 @@
--- Laws of tests over lists: a test over a list that another list covers, the corners of a turned tuple, and distinct numbers.
+-- Laws of tests over lists: a test over a list that another covers, the corners of a turned tuple, distinct numbers.
 -- Assumes nothing.
 use Prim.Native.Nat.{ℕ, zero, suc, _<_, _≤_, _+_}
 use mathlib.Core.Path.{_≡_, refl, sym, _∙_, ap, ap₂}
@@ -12,6 +12,7 @@ use Rattle.base.specs.Lists.{all, any, every, from, upTo, isIn, distinct, equal
 use Rattle.templates.specs.Tables.{at}
 use Rattle.base.proofs.Bools.{or-either}
 use Rattle.base.proofs.Lists.{both-left, both-right, all-at, all-from, any-at}
+use Rattle.base.proofs.Members.{from-at, from-has}
 
 -- two tests of which each passes where the other does
 pub agree : (a b : Bool) → (a ≡ true → b ≡ true) → (b ≡ true → a ≡ true) → a ≡ b
@@ -87,15 +88,6 @@ module _ (p : ℕ → Bool) (xs ys : List ℕ) (e : covers eqb xs ys ≡ true) w
   pub same-any : any p xs ≡ any p ys
   same-any = any-over eqb p p xs ys (λ x y q. ap p (eqb-true x y q)) e
 
-module _ {A B : Type 0} (p : B → Bool) (f : A → B) where
-  pub all-map : (xs : List A) → all p (map f xs) ≡ all (λ x. p (f x)) xs
-  all-map [] = refl
-  all-map (x ∷ xs) = ap (λ b. p (f x) && b) (all-map xs)
-
-  pub any-map : (xs : List A) → any p (map f xs) ≡ any (λ x. p (f x)) xs
-  any-map [] = refl
-  any-map (x ∷ xs) = ap (λ b. p (f x) || b) (any-map xs)
-
 -- ── corners of a tuple ──
 
 pub getD-map : (f : ℕ → ℕ) (l : List ℕ) (k : ℕ) → k < length l → getD (map f l) k 0 ≡ f (getD l k 0)
@@ -123,27 +115,15 @@ pub at-all : (c : List ℕ) → at c (upTo (length c)) ≡ c
 at-all [] = refl
 at-all (x ∷ xs) = ap (λ l. x ∷ l) (from-suc (λ k. getD (x ∷ xs) k 0) 0 (length xs) ∙ at-all xs)
 
-pub mem-from : (i k j : ℕ) → i ≤ j → j < i + k → List·Memᴰ j (from i k)
-mem-from i zero j h e = absurd (omega arith)
-mem-from i (suc k) j h e = go (eqb j i) refl (λ b. mem-from (suc i) k j b (omega arith))
-  where
-    go : (b : Bool) → eqb j i ≡ b → (suc i ≤ j → List·Memᴰ j (from (suc i) k)) → List·Memᴰ j (from i (suc k))
-    go true q f = List·Memᴰ·head (eqb-true j i q)
-    go false q f = let n = eqb-false j i q in List·Memᴰ·tail (f (omega arith))
-
-pub from-less : (i k j : ℕ) → List·Memᴰ j (from i k) → j < i + k
-from-less i (suc k) j (List·Memᴰ·head q) = omega arith
-from-less i (suc k) j (List·Memᴰ·tail h) = let e = from-less (suc i) k j h in omega arith
-
 pub isIn-upTo : (v n : ℕ) → isIn v (upTo n) ≡ true → v < n
 isIn-upTo v n e =
     let w = any-at (eqb v) (upTo n) e in
-    let h = from-less 0 n (w .0) (w .1) in
+    let h = from-at 0 n (w .1) .1 in
     let q = eqb-true v (w .0) (w .2) in
     omega arith
 
 pub upTo-isIn : (v n : ℕ) → v < n → isIn v (upTo n) ≡ true
-upTo-isIn v n h = any-from (eqb v) (upTo n) (mem-from 0 n v (omega arith) (omega arith)) (eq-eqb v v refl)
+upTo-isIn v n h = any-from (eqb v) (upTo n) (from-has 0 n v (omega arith) (omega arith)) (eq-eqb v v refl)
 
 -- ── distinct numbers ──
 

@@ -1,4 +1,5 @@
--- The templates: of each kind the edges, the faces, the corner triples, the search order and the rotations. Corners a to h are 0 to 7.
+-- The templates: of each kind the edges, the faces, the corner triples, the search order and the rotations.
+-- Corners a to h are 0 to 7.
 -- Assumes nothing.
 use Prim.Native.Nat.{ℕ}
 use mathlib.Core.Bool.{Bool, cond, _||_}
@@ -153,3 +154,8 @@ templateOf k = cond (eqb k 8) hexahedron (cond (eqb k 6) prism pyramid)
 -- the vertices of a tuple at these corners
 abbrev pub at : List ℕ → List ℕ → List ℕ
 at c ks = map (λ k. getD c k 0) ks
+
+-- eight numbers, 0 where the tuple has none
+abbrev pub eight : List ℕ → List ℕ
+eight xs =
+    getD xs 0 0 ∷ getD xs 1 0 ∷ getD xs 2 0 ∷ getD xs 3 0 ∷ getD xs 4 0 ∷ getD xs 5 0 ∷ getD xs 6 0 ∷ getD xs 7 0 ∷ []

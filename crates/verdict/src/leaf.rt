@@ -2,8 +2,8 @@
 use crate::Verdict;
 use crate::is_cell;
 use crate::no;
-use templates::is_least;
-use templates::letters;
+use least::is_least;
+use order::letters;
 ghost use mathlib.Core.Path.{_≡_};
 ghost use mathlib.Core.Bool.{true};
 ghost use Rattle.space.specs.Arrays.{meshOf};

@@ -16,8 +16,9 @@ use Rattle.layout.specs.Layout.{vertices, decoded, lengthRight, countsRight, la
 use Rattle.tets.specs.Tets.{boxAt, outside, twice, flat}
 use Rattle.facets.specs.Facets.{opposite, full, crowded, astray, clashes, clashing, folded}
 use Rattle.arrays.specs.Refusals.{refusals, refusal}
-use Rattle.templates.specs.declared.Least.the-variants.{Form}
-use Rattle.templates.specs.Least.{rises, risesAt, leastBy, formBy, leastForm}
+use Rattle.turning.specs.declared.Least.the-variants.{Form}
+use Rattle.least.specs.Least.{rises, risesAt}
+use Rattle.turning.specs.Form.{leastBy, formBy, leastForm}
 use Rattle.cells.specs.Full.{Cell, cell, fullList}
 use Rattle.once.specs.Rows as once
 use Rattle.once.specs.Rows.{meshP, meshC, listC}

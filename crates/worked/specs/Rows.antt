@@ -8,9 +8,9 @@ use lib.ListN.{length, take, replicate}
 use Rattle.layout.specs.Layout.{vertices, decoded}
 use Rattle.arrays.specs.Refusals.{refusals}
 use Rattle.mesh.specs.Rows.{u16, joins, pyramid, cube}
-use Rattle.templates.specs.declared.Least.{Least}
-use Rattle.templates.specs.declared.Least.the-variants.{Form}
-use Rattle.templates.specs.Least.{leastForm, leastNumber}
+use Rattle.turning.specs.declared.Least.{Least}
+use Rattle.turning.specs.declared.Least.the-variants.{Form}
+use Rattle.turning.specs.Form.{leastForm, leastNumber}
 use Rattle.once.specs.Rows.{listC}
 use Rattle.portions.specs.Portions.{Answer, refused, given, records}
 use Rattle.rule.specs.Rule.{tetRule}

@@ -3,7 +3,7 @@ use mathlib.Core.Path.{_∙_, ap}
 use native.Mathlib.Omega.{arith}
 use lib.ListN.{take}
 use Rattle.templates.specs.Tables.{templateOf}
-use Rattle.templates.proofs.Fronts.{ordered-front}
+use Rattle.order.proofs.Fronts.{ordered-front}
 use Rattle.record.specs.Marks.{letters}
 use borrow.Author.Needs.{needs}
 use Rattle.following.proofs.InTurn.{agree-take}

@@ -2,7 +2,7 @@
 use mathlib.Core.Path.{_≡_, _∙_, ap}
 use mathlib.Core.List.{_∷_}
 use lib.ListN.{length}
-use Rattle.templates.proofs.Fronts.{eight-all}
+use Rattle.order.proofs.Fronts.{eight-all}
 use borrow.Author.Needs.{needs}
 use Rattle.following.proofs.mark_at.Statement.{statement}
 use Rattle.following.proofs.mark_at.Tie as tie

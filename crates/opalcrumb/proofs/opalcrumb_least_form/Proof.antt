@@ -1,6 +1,6 @@
 -- `opalcrumb::opalcrumb_least_form` meets its contract. Assumes nothing.
 use mathlib.Core.Path.{sym, ap, _∙_}
-use Rattle.templates.specs.Least.{leastNumber}
+use Rattle.turning.specs.Form.{leastNumber}
 use Rattle.opalcrumb.specs.Boundary.{leastLeft}
 use borrow.Author.Needs.{needs}
 use Rattle.opalcrumb.proofs.opalcrumb_least_form.Statement.{statement}

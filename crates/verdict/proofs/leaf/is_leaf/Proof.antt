@@ -5,8 +5,8 @@ use lib.ListN.{take}
 use Rattle.base.proofs.Bools.{and-fails, and-passes}
 use Rattle.space.specs.Arrays.{meshOf}
 use Rattle.templates.specs.Tables.{templateOf, at}
-use Rattle.templates.specs.Least.{isLeast}
-use Rattle.templates.proofs.Fronts.{letters-front}
+use Rattle.least.specs.Least.{isLeast}
+use Rattle.order.proofs.Fronts.{letters-front}
 use Rattle.cells.specs.Cells.{isCell, numbersOf}
 use Rattle.rule.specs.Rule.{isLeaf, cellAt}
 use Rattle.judging.proofs.Numbers.{found-as}
