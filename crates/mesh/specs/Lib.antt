@@ -1,3 +1,2 @@
 pub mod View
 pub mod Reads
-pub mod Rows
