@@ -9,7 +9,7 @@ use borrow.Author.Tests.{lt-ltb, le-ltb}
 use lib.IntN.{ℤ}
 use lib.ListN.{length, drop}
 use Rattle.space.specs.Arrays.{meshOf}
-use Rattle.neighbours.specs.declared.Filled.the-variants.{Entries, Short}
+use Rattle.rooms.specs.declared.Filled.the-variants.{Entries, Short}
 use Rattle.neighbours.specs.Table.{tableOf, filledOf, tableAfter}
 use Rattle.neighbours.specs.Reading.{Tabled}
 use Rattle.neighbours.proofs.Whole.{table-bare}

@@ -1,9 +1,9 @@
 // The listing of a mesh file's cells: one portion at a time, from any mark on.
 use arrays::Checked;
-use neighbours::Filled;
 use record::Mark;
 use record::SIZE;
 use records::Answer;
+use rooms::Filled;
 ghost use mathlib.Core.Path.{_≡_};
 ghost use mathlib.Core.List.{[]};
 ghost use lib.Dec.{leb};

@@ -1,20 +1,15 @@
 -- The table by the matrix is the table of the mesh, and what `fill_if` answers. Assumes nothing.
-use mathlib.Core.Path.{_≡_, refl, sym, _∙_, ap}
-use mathlib.Core.Bool.{Bool, true, false, cond, _||_}
+use mathlib.Core.Path.{_≡_, sym, _∙_, ap}
+use mathlib.Core.Bool.{Bool, cond, _||_}
 use mathlib.Core.List.{List, [], _++_}
-use Prim.Native.Nat.{ℕ, _+_, _/_, _≤_, _<_}
+use Prim.Native.Nat.{ℕ, _+_, _/_, _≤_}
 use native.Mathlib.Omega.{arith}
-use borrow.Author.Tests.{lt-ltb, le-ltb}
-use lib.Dec.{ltb}
 use lib.IntN.{ℤ}
-use lib.ListN.{length, take, drop}
-use Rattle.base.specs.Laid.{Laid}
-use Rattle.base.proofs.Lay.{lay-front}
+use lib.ListN.{length, take}
 use Rattle.space.specs.Mesh.{Mesh}
 use Rattle.space.specs.Arrays.{meshOf}
-use Rattle.neighbours.specs.declared.Filled.{Filled}
-use Rattle.neighbours.specs.declared.Filled.the-variants.{Entries, Short}
-use Rattle.neighbours.specs.Table.{rowOf, rowsOf, offsets, tableBy, tableOf, filledBy, laidBy, filledOf, tableAfter}
+use Rattle.rooms.specs.Rooms.{filledBy, laidBy}
+use Rattle.neighbours.specs.Table.{rowOf, rowsOf, offsets, tableBy, tableOf, filledOf, tableAfter}
 use Rattle.neighbours.specs.Grown.{Grown, Few}
 use Rattle.matrix.specs.Matrix.{joinedBy, isJoined, Empty, Joins}
 use Rattle.neighbours.proofs.Rows.{row-same, length-table}
@@ -41,21 +36,6 @@ module _ (l : List ℕ) (n : ℕ) {m : List ℕ} (small : n ≤ 512) {m₀ : Lis
 
   pub rows-short : length l ≤ 8192 → Few (rowOf (isJoined m) n)
   rows-short h = rw rows (few l n h)
-
--- a slice for the table xs: it is too short, or it holds the table
-module _ (xs old : List ℕ) where
-  pub short-answer : length old < length xs → Short ≡ filledBy xs (length old)
-  short-answer h = rw (lt-ltb (length old) (length xs) h)
-
-  pub short-content : (b : Bool) → length old < length xs → old ≡ cond b (laidBy xs old) old
-  short-content true h = rw (lt-ltb (length old) (length xs) h)
-  short-content false h = refl
-
-  pub full-answer : (s : ℕ) → s ≡ length xs → length xs ≤ length old → Entries s ≡ filledBy xs (length old)
-  full-answer s e h = rw (le-ltb (length old) (length xs) h, e)
-
-  pub full-content : {new : List ℕ} → Laid 0 xs old new → new ≡ laidBy xs old
-  full-content d = rw (le-ltb (length old) (length xs) (omega (arith, d .room))) (d .content ∙ lay-front xs old)
 
 -- what holds of a slice for xs holds for the table that xs is
 module _ (m : Mesh) (n : ℕ) {xs : List ℕ} (e : xs ≡ tableOf m n) (old : List ℕ) where

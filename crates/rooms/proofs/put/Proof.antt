@@ -1,5 +1,5 @@
--- `neighbours::put` meets its contract. The loop's invariant: what it has passed of the list is laid from `from` on. Assumes nothing.
-use mathlib.Core.Path.{_≡_, refl}
+-- `rooms::put` meets its contract. The loop's invariant: what it has passed of the list is laid from `from` on. Assumes nothing.
+use mathlib.Core.Path.{refl}
 use Prim.Native.Nat.{_+_, _-_, _≤_, _<_}
 use native.Mathlib.Omega.{arith}
 use native.Mathlib.Numerals.{add-one}
@@ -8,32 +8,32 @@ use lib.Seq.{take-suc, length-take-le, take-all}
 use Rattle.base.specs.Laid.{Laid}
 use Rattle.base.proofs.Lay.{laid-none, laid-set, laid-as}
 use borrow.Author.Needs.{needs}
-use Rattle.neighbours.proofs.put.Statement.{statement}
-use Rattle.neighbours.proofs.put.Tie as tie
+use Rattle.rooms.proofs.put.Statement.{statement}
+use Rattle.rooms.proofs.put.Tie as tie
 
 abbrev Inv-loop : tie.InvT-loop
-Inv-loop table₀ from list i₀ table i = (i ≤ length list) × Laid from (take i list) table₀ table
+Inv-loop room₀ from list i₀ room i = (i ≤ length list) × Laid from (take i list) room₀ room
 
 abbrev μ-loop : tie.MeasureT-loop
-μ-loop table₀ from list i₀ table i = length list - i
+μ-loop room₀ from list i₀ room i = length list - i
 
 loop-holds : tie.Need-loop-holds Inv-loop μ-loop
-loop-holds c = (omega arith, laid-none (c .args .from) _ (c .args .table .now) refl (omega arith))
+loop-holds c = (omega arith, laid-none (c .args .from) _ (c .args .room .now) refl (omega arith))
 
-mul-table : tie.Need-mul-table Inv-loop μ-loop
-mul-table c = search needs
+mul-room : tie.Need-mul-room Inv-loop μ-loop
+mul-room c = search needs
 
-shared-slice-read-table : tie.Need-shared-slice-read-table Inv-loop μ-loop
-shared-slice-read-table c = search needs
+shared-slice-read-room : tie.Need-shared-slice-read-room Inv-loop μ-loop
+shared-slice-read-room c = search needs
 
-add-table : tie.Need-add-table Inv-loop μ-loop
-add-table c = search needs
+add-room : tie.Need-add-room Inv-loop μ-loop
+add-room c = search needs
 
-mul-table-2 : tie.Need-mul-table-2 Inv-loop μ-loop
-mul-table-2 c = search needs
+mul-room-2 : tie.Need-mul-room-2 Inv-loop μ-loop
+mul-room-2 c = search needs
 
-slice-write-table : tie.Need-slice-write-table Inv-loop μ-loop
-slice-write-table c = omega arith
+slice-write-room : tie.Need-slice-write-room Inv-loop μ-loop
+slice-write-room c = omega arith
 
 add-i : tie.Need-add-i Inv-loop μ-loop
 add-i c = search needs
@@ -60,11 +60,11 @@ put-spec =
     Inv-loop
     μ-loop
     loop-holds
-    mul-table
-    shared-slice-read-table
-    add-table
-    mul-table-2
-    slice-write-table
+    mul-room
+    shared-slice-read-room
+    add-room
+    mul-room-2
+    slice-write-room
     add-i
     loop-less
     loop-again

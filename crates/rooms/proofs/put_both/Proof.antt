@@ -1,10 +1,10 @@
+-- `rooms::put_both` meets its contract: the second list is laid behind the first. Assumes nothing.
 use mathlib.Core.Path.{refl}
 use native.Mathlib.Omega.{arith}
-use lib.ListN.{length}
 use Rattle.base.proofs.Lay.{laid-more}
 use borrow.Author.Needs.{needs}
-use Rattle.neighbours.proofs.put_table.Statement.{statement}
-use Rattle.neighbours.proofs.put_table.Tie as tie
+use Rattle.rooms.proofs.put_both.Statement.{statement}
+use Rattle.rooms.proofs.put_both.Tie as tie
 
 put-requires : tie.Need-put-requires
 put-requires c κs = search needs
@@ -19,5 +19,5 @@ returns : tie.Need-returns
 returns c =
     laid-more (c .before .before .before .before .before .before .put .ensures) _ (omega arith) (c .before .before .put2 .ensures) refl
 
-pub put-table-spec : {M : Type 1} → statement M
-put-table-spec = tie.close (tie.spec put-requires put-requires-2 same-length returns)
+pub put-both-spec : {M : Type 1} → statement M
+put-both-spec = tie.close (tie.spec put-requires put-requires-2 same-length returns)
