@@ -1,7 +1,7 @@
 -- What an opened view answers: of an accepted file its mesh. Assumes nothing.
 use mathlib.Core.Path.{_≡_, sym, _∙_, ap}
 use mathlib.Core.List.{List}
-use mathlib.Core.Bool.{cond}
+use mathlib.Core.Bool.{true, cond}
 use Prim.Native.Nat.{ℕ}
 use lib.Dec.{ltb}
 use borrow.Author.Tests.{ne-eqb}
@@ -14,11 +14,11 @@ use Rattle.arrays.specs.Refusals.{refusal, answered, checked}
 use Rattle.arrays.specs.declared.Checked.the-variants.{Accepted}
 use Rattle.arrays.proofs.Answers.{accepted-says}
 use Rattle.arrays.proofs.Accepted.{accepted-gives}
-use Rattle.view.specs.View.{tet, four, placeIn, tetraIn, partIn}
+use Rattle.view.specs.View.{fits, tet, four, placeIn, tetraIn, partIn}
 use Rattle.view.specs.declared.Place.the-variants.{At, Nowhere}
 use Rattle.view.specs.declared.Tetra.the-variants.{NoTet}
 use Rattle.view.specs.declared.Part.the-variants.{Number, NoPart}
-use Rattle.view.proofs.Shown.{place-framed, tetra-framed, part-framed}
+use Rattle.view.proofs.Shown.{fits-framed, place-framed, tetra-framed, part-framed}
 use Rattle.mesh.specs.Counts.{sizesOf, sizesIn}
 use Rattle.mesh.specs.declared.View.{View}
 
@@ -33,8 +33,11 @@ sizes-refused f h = rw (ne-eqb (refusal f) 0 h)
 
 -- its answers, for an accepted file
 module _ (f : List ℕ) (n t : ℕ) (e : checked f ≡ Accepted n t) where
-  pub whole : Framed f n t
+  whole : Framed f n t
   whole = let s = accepted-says f e in rw (s .1 .0, s .1 .1) (accepted-gives f (s .0) .framed)
+
+  pub fits-accepted : fits f n t ≡ true
+  fits-accepted = fits-framed whole
 
   pub place-accepted : (v : Vertex) → placeIn f n t v ≡ cond (ltb (v .0) n) (At (point (decoded f) (v .0))) Nowhere
   place-accepted = place-framed whole
