@@ -11,7 +11,8 @@ use Rattle.space.specs.Arrays.{Close}
 use Rattle.around.specs.Index.{Labelled}
 use Rattle.facets.proofs.Sound.{Sound, sound}
 use Rattle.layout.specs.Layout.{vertices, tets, Framed, vertexPart, tetPart, coordsOf, labelsOf}
-use Rattle.layout.proofs.Framed.{framed, near-close, coords-long, labels-long}
+use Rattle.layout.proofs.Framed.{framed, coords-long, labels-long}
+use Rattle.decoding.proofs.Parts.{near-close}
 use Rattle.tets.proofs.Labelled.{labelled-of}
 use Rattle.arrays.specs.Refusals.{refusals, refusal}
 

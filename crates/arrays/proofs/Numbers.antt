@@ -9,7 +9,7 @@ use Rattle.base.specs.Refusals.{firstOf}
 use Rattle.base.proofs.Refusals.{Passed, passed}
 use Rattle.space.specs.Arrays.{Close}
 use Rattle.around.specs.Index.{Labelled}
-use Rattle.layout.proofs.Framed.{near-close}
+use Rattle.decoding.proofs.Parts.{near-close}
 use Rattle.tets.proofs.Labelled.{labelled-of}
 use Rattle.arrays.specs.Refusals.{ofNumbers}
 

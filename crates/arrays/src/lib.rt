@@ -1,11 +1,11 @@
 // A mesh file read into arrays that the caller lends, with its index, and refusals 1 to 9 on the way: for everyone who
 // asks about a file's tetrahedra or cells. The tests stand in the order of the list `refusals`.
 use around::index;
+use decoding::all_near;
+use decoding::decode;
 use facets::any_crowded;
 use facets::any_folded;
-use layout::all_near;
 use layout::counts_right;
-use layout::decode;
 use layout::layout_right;
 use layout::length_right;
 use layout::u32_at;

@@ -1,22 +1,16 @@
 -- What a header that is not refused tells of the file, and what the file then says. Assumes nothing.
-use mathlib.Core.Path.{_≡_, refl}
-use mathlib.Core.List.{List, [], _∷_}
-use mathlib.Core.Bool.{Bool, true, false, cond, _&&_}
-use Prim.Native.Nat.{ℕ, zero, suc, _+_, _*_, _/_, _%_, _≤_}
-use lib.ListN.{length, getD, length-drop}
-use lib.IntN.{ℤ, pos}
+use mathlib.Core.Path.{_≡_}
+use mathlib.Core.List.{List}
+use mathlib.Core.Bool.{true, _&&_}
+use Prim.Native.Nat.{ℕ, _+_, _*_, _/_, _%_, _≤_}
+use lib.ListN.{length}
 use native.Mathlib.Omega.{arith}
 use lib.Dec.{leb, eqb}
 use borrow.Author.Tests.{leb-true, eqb-true}
-use Rattle.base.specs.Lists.{all}
-use Rattle.base.specs.Size.{Small}
 use Rattle.base.proofs.Bools.{and-left, and-right}
 use Rattle.base.proofs.Loop.{length-up}
-use Rattle.space.specs.Box.{near}
-use Rattle.space.specs.Arrays.{Close}
-use Rattle.space.proofs.Near.{near-small}
 use Rattle.layout.specs.Bytes.{u16At, u32At, i32At}
-use Rattle.layout.specs.Layout.{vertices, tets, lengthRight, countsRight, layoutRight, Framed, vertexPart, tetPart, coordsIn, labelsIn, partsIn}
+use Rattle.layout.specs.Layout.{vertices, tets, lengthRight, countsRight, layoutRight, Framed, coordsIn, labelsIn, partsIn}
 
 -- ---- the tests of the header, one by one
 
@@ -74,13 +68,6 @@ module _ {f : List ℕ} {n t : ℕ} (h : Framed f n t) where
   pub longest-reached : n ≡ 512 → t ≡ 2048 → length f ≡ 26648
   longest-reached p q = omega (arith, h .whole)
 
-  -- both parts begin inside the file, and hold what the counts say
-  pub vertex-room : 12 * n ≤ length (vertexPart f)
-  vertex-room = omega (arith, h .whole, length-drop 24 f)
-
-  pub tet-room : length (tetPart n f) ≡ 10 * t
-  tet-room = omega (arith, h .whole, length-drop (24 + 12 * n) f)
-
 -- ---- what the file says
 
 pub coords-long : (q : List ℕ) (k : ℕ) → length (coordsIn q k) ≡ k
@@ -94,12 +81,3 @@ labels-long p k = length-up (λ x. u16At p (10 * (x / 4) + 2 * (x % 4))) k
 pub parts-long : (p : List ℕ) (k : ℕ) → length (partsIn p k) ≡ k
 unfolding partsIn
 parts-long p k = length-up (λ j. u16At p (10 * j + 8)) k
-
--- coordinates that pass the test are in bounds
-pub near-close : (zs : List ℤ) → all near zs ≡ true → Close zs
-near-close zs e = record { close = at zs e }
-  where
-    at : (zs : List ℤ) → all near zs ≡ true → (i : ℕ) → Small 50000 (getD zs i (pos 0))
-    at [] e i = record { small = omega arith }
-    at (z ∷ zs) e zero = near-small z (and-left (near z) (all near zs) e)
-    at (z ∷ zs) e (suc i) = at zs (and-right (near z) (all near zs) e) i

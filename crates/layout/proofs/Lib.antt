@@ -1,3 +1,1 @@
-pub mod Fill
 pub mod Framed
-pub mod Says

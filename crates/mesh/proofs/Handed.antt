@@ -28,7 +28,7 @@ use denote.Laws.{Is, shows}
 use denote.Plain.{uint-makes}
 use denote.Builtin.{u8, usize, SliceRefOf}
 use denote.Ref.{now}
-use denote.Signature.{Signature, plain, namedLft}
+use denote.Signature.{plain, namedLft}
 use denote.Slice.{sliceVal, ShrSlice}
 use denote.Steps.{owned, peeks, heard, nothing}
 use denote.Enum.Enum as EE
@@ -52,7 +52,7 @@ use Rattle.mesh.proofs.View as T
 use Rattle.mesh.proofs.View.Laws as T′
 
 -- the view's type, over the signature's lifetimes
-abbrev B : Lfts 1 → RattleType
+abbrev pub B : Lfts 1 → RattleType
 B κs = T.the-row (namedLft 1 0 tt κs)
 
 -- the number is of type D by the name nm, the answer of the enum ST

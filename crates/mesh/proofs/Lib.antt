@@ -1,4 +1,3 @@
-pub mod Held
 pub mod Opened
-pub mod Worked
 pub mod Handed
+pub mod Counted

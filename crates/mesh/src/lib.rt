@@ -1,16 +1,19 @@
 // The check of a mesh file, refusals 1 to 9, and the view over an accepted file's own bytes. Knows nothing of cells.
 use arrays::Checked;
-use space::Point;
 use space::Tet;
 use space::Vertex;
+use view::Part;
+use view::Place;
+use view::Tetra;
+use view::part_of;
+use view::point_of;
+use view::tet_of;
 ghost use mathlib.Core.Path.{_≡_};
-ghost use Prim.Native.Nat.{_+_, _*_, _≤_};
-ghost use lib.ListN.{length};
 ghost use Rattle.layout.specs.Layout.{Framed};
 ghost use Rattle.arrays.specs.Refusals.{headed, checked};
 ghost use Rattle.arrays.specs.declared.Checked.the-variants.{Accepted};
-ghost use Rattle.mesh.specs.View.{sizesIn, fits, placeIn, tetraIn, partIn};
-ghost use Rattle.mesh.specs.Reads.{pointRead, tetraRead};
+ghost use Rattle.view.specs.View.{placeIn, tetraIn, partIn};
+ghost use Rattle.mesh.specs.Counts.{sizesIn};
 
 // Refusals 4 to 9, of a file whose header is sound.
 fn check_parts(file: &[u8], n: usize, t: usize) -> Checked
@@ -53,116 +56,6 @@ pub fn check(file: &[u8]) -> Checked
 }
 
 // ---- the view
-
-// Where a vertex is.
-pub enum Place {
-    At(Point),
-    Nowhere,
-}
-
-// The vertices of a tetrahedron.
-pub enum Tetra {
-    Joins {
-        a: Vertex,
-        b: Vertex,
-        c: Vertex,
-        d: Vertex,
-    },
-    NoTet,
-}
-
-// The part of a tetrahedron.
-pub enum Part {
-    Number(u16),
-    NoPart,
-}
-
-// The counts fill the file: without this no reader below looks into it.
-fn counts_fit(file: &[u8], n: usize, t: usize) -> bool
-    ensures { λ r. ⌜ r ≡ fits (now (file .entry)) n t ⌝ }
-{
-    if 512 < n {
-        return false;
-    }
-    if 2048 < t {
-        return false;
-    }
-    file.len() == 24 + 12 * n + 10 * t
-}
-
-// Point `k` of a vertex part.
-fn point_in(part: &[u8], k: usize) -> Point
-    requires { ⌜ 12 * k + 12 ≤ length (now part) ⌝ }
-    ensures { λ r. ⌜ r ≡ pointRead (now (part .entry)) k ⌝ }
-{
-    let at = 12 * k;
-    Point {
-        x: layout::i32_at(part, at),
-        y: layout::i32_at(part, at + 4),
-        z: layout::i32_at(part, at + 8),
-    }
-}
-
-// The vertices of tetrahedron `j` of a tetrahedron part.
-fn tet_in(part: &[u8], j: usize) -> Tetra
-    requires { ⌜ 10 * j + 10 ≤ length (now part) ⌝ }
-    ensures { λ r. ⌜ r ≡ tetraRead (now (part .entry)) j ⌝ }
-{
-    let at = 10 * j;
-    Tetra::Joins {
-        a: Vertex(layout::u16_at(part, at)),
-        b: Vertex(layout::u16_at(part, at + 2)),
-        c: Vertex(layout::u16_at(part, at + 4)),
-        d: Vertex(layout::u16_at(part, at + 6)),
-    }
-}
-
-// The point of a vertex, in a file with `n` vertices and `t` tetrahedra.
-pub fn point_of(file: &[u8], n: usize, t: usize, v: Vertex) -> Place
-    ensures { λ r. ⌜ r ≡ placeIn (now (file .entry)) n t v ⌝ }
-{
-    if !counts_fit(file, n, t) {
-        return Place::Nowhere;
-    }
-    let k = v.0 as usize;
-    if k < n {
-        Place::At(point_in(&file[24..], k))
-    } else {
-        Place::Nowhere
-    }
-}
-
-// The vertices of a tetrahedron.
-pub fn tet_of(file: &[u8], n: usize, t: usize, e: Tet) -> Tetra
-    ensures { λ r. ⌜ r ≡ tetraIn (now (file .entry)) n t e ⌝ }
-{
-    if !counts_fit(file, n, t) {
-        return Tetra::NoTet;
-    }
-    let j = e.0 as usize;
-    let at = 24 + 12 * n;
-    if j < t {
-        tet_in(&file[at..], j)
-    } else {
-        Tetra::NoTet
-    }
-}
-
-// The part of a tetrahedron.
-pub fn part_of(file: &[u8], n: usize, t: usize, e: Tet) -> Part
-    ensures { λ r. ⌜ r ≡ partIn (now (file .entry)) n t e ⌝ }
-{
-    if !counts_fit(file, n, t) {
-        return Part::NoPart;
-    }
-    let j = e.0 as usize;
-    let at = 24 + 12 * n;
-    if j < t {
-        Part::Number(layout::u16_at(&file[at..], 10 * j + 8))
-    } else {
-        Part::NoPart
-    }
-}
 
 // The counts of a file: those of its header where it is accepted, else none.
 pub struct Sizes {

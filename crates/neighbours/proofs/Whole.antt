@@ -1,19 +1,13 @@
 -- The table by the matrix is the table of the mesh, and what `fill_if` answers. Assumes nothing.
-use mathlib.Core.Path.{_≡_, refl, sym, _∙_, ap}
-use mathlib.Core.Bool.{Bool, true, false, cond, _||_}
+use mathlib.Core.Path.{_≡_, sym, _∙_, ap}
+use mathlib.Core.Bool.{Bool, cond, _||_}
 use mathlib.Core.List.{List, [], _++_}
-use Prim.Native.Nat.{ℕ, _+_, _/_, _≤_, _<_}
+use Prim.Native.Nat.{ℕ, _+_, _/_, _≤_}
 use native.Mathlib.Omega.{arith}
-use borrow.Author.Tests.{lt-ltb, le-ltb}
-use lib.Dec.{ltb}
 use lib.IntN.{ℤ}
-use lib.ListN.{length, take, drop}
-use Rattle.base.specs.Laid.{Laid}
-use Rattle.base.proofs.Lay.{lay-front}
+use lib.ListN.{length, take}
 use Rattle.space.specs.Arrays.{meshOf}
-use Rattle.neighbours.specs.declared.Filled.{Filled}
-use Rattle.neighbours.specs.declared.Filled.the-variants.{Entries, Short}
-use Rattle.neighbours.specs.Table.{rowOf, rowsOf, offsets, tableBy, tableOf, tableIn, filledBy, laidBy}
+use Rattle.neighbours.specs.Table.{rowOf, rowsOf, offsets, tableBy, tableOf, tableIn}
 use Rattle.neighbours.specs.Grown.{Grown, Few}
 use Rattle.matrix.specs.Matrix.{joinedBy, isJoined, Empty, Joins}
 use Rattle.neighbours.proofs.Rows.{row-same, length-table}
@@ -40,21 +34,6 @@ module _ (l : List ℕ) (n : ℕ) {m : List ℕ} (small : n ≤ 512) {m₀ : Lis
 
   pub rows-short : length l ≤ 8192 → Few (rowOf (isJoined m) n)
   rows-short h = rw rows (few l n h)
-
--- a slice for the table xs: it is too short, or it holds the table
-module _ (xs old : List ℕ) where
-  pub short-answer : length old < length xs → Short ≡ filledBy xs (length old)
-  short-answer h = rw (lt-ltb (length old) (length xs) h)
-
-  pub short-content : (b : Bool) → length old < length xs → old ≡ cond b (laidBy xs old) old
-  short-content true h = rw (lt-ltb (length old) (length xs) h)
-  short-content false h = refl
-
-  pub full-answer : (s : ℕ) → s ≡ length xs → length xs ≤ length old → Entries s ≡ filledBy xs (length old)
-  full-answer s e h = rw (le-ltb (length old) (length xs) h, e)
-
-  pub full-content : {new : List ℕ} → Laid 0 xs old new → new ≡ laidBy xs old
-  full-content d = rw (le-ltb (length old) (length xs) (omega (arith, d .room))) (d .content ∙ lay-front xs old)
 
 -- the slice that always suffices
 pub enough : (zs : List ℤ) (l ps : List ℕ) (n : ℕ) → n ≤ 512 → length l ≤ 8192 → length (tableOf (meshOf zs l ps) n) ≤ 25089

@@ -1,15 +1,13 @@
 -- The neighbour table: where the row of each vertex starts, and the rows, each with its neighbours rising.
 -- Assumes nothing.
 use Prim.Native.Nat.{ℕ, _+_}
-use mathlib.Core.Bool.{Bool, cond, not, _&&_}
+use mathlib.Core.Bool.{Bool, not, _&&_}
 use mathlib.Core.List.{List, [], _∷_, _++_, map}
-use lib.Dec.{eqb, ltb}
-use lib.ListN.{length, drop}
+use lib.Dec.{eqb}
+use lib.ListN.{length}
 use Rattle.base.specs.Lists.{keep, spread, upTo}
 use Rattle.space.specs.Mesh.{Mesh, together}
 use Rattle.around.specs.Index.{togetherIn}
-use Rattle.neighbours.specs.declared.Filled.{Filled}
-use Rattle.neighbours.specs.declared.Filled.the-variants.{Entries, Short}
 
 -- of the vertices below n, those that f says are next to u, and u not
 unfoldable pub rowOf : (ℕ → ℕ → Bool) → ℕ → ℕ → List ℕ
@@ -25,14 +23,6 @@ offsets row n = map (λ u. length (rowsOf row u)) (upTo (n + 1))
 
 unfoldable pub tableBy : (ℕ → List ℕ) → ℕ → List ℕ
 tableBy row n = offsets row n ++ rowsOf row n
-
--- the answer for a slice of this many entries, where the table is xs
-abbrev pub filledBy : List ℕ → ℕ → Filled
-filledBy xs room = cond (ltb room (length xs)) Short (Entries (length xs))
-
--- and what the slice holds at exit
-abbrev pub laidBy : List ℕ → List ℕ → List ℕ
-laidBy xs old = cond (ltb (length old) (length xs)) old (xs ++ drop (length xs) old)
 
 -- the neighbours of u, rising: other vertices, below n, that stand with it in a tetrahedron; and the neighbour table of n vertices
 module _ (m : Mesh) (n : ℕ) where

@@ -2,15 +2,17 @@
 use matrix::is_blank;
 use matrix::is_next;
 use matrix::join_all;
+use rooms::Filled;
+use rooms::put_if;
 use space::Vertex;
 ghost use mathlib.Core.Path.{_≡_};
-ghost use mathlib.Core.List.{[], _++_};
-ghost use mathlib.Core.Bool.{true, cond};
+ghost use mathlib.Core.List.{[]};
+ghost use mathlib.Core.Bool.{cond};
 ghost use Prim.Native.Nat.{ℕ, _+_, _*_, _/_, _<_, _≤_};
 ghost use lib.ListN.{length, getD};
-ghost use Rattle.base.specs.Laid.{Laid};
 ghost use Rattle.around.specs.Index.{Labelled};
-ghost use Rattle.neighbours.specs.Table.{rowOf, rowsOf, offsets, filledBy, laidBy, tableIn};
+ghost use Rattle.rooms.specs.Rooms.{filledBy, laidBy};
+ghost use Rattle.neighbours.specs.Table.{rowOf, rowsOf, offsets, tableIn};
 ghost use Rattle.neighbours.specs.Grown.{Grown, partOf, Few};
 ghost use Rattle.neighbours.specs.Reading.{Tabled, RowOf};
 ghost use Rattle.matrix.specs.Matrix.{isJoined, Empty};
@@ -19,11 +21,6 @@ ghost use Rattle.matrix.specs.Matrix.{isJoined, Empty};
 pub struct Row {
     pub from: usize,
     pub size: usize,
-}
-
-pub enum Filled {
-    Entries(usize),
-    Short,
 }
 
 fn wide(x: u16) -> usize
@@ -97,43 +94,8 @@ fn put_rows(m: &[u8; 262144], n: usize, starts: &mut [u16], rows: &mut [u16]) ->
 
 // ---- the table
 
-// Writes a list from a place on. Records are written by it too.
-pub fn put(table: &mut [u16], from: usize, list: &[u16])
-    requires { ⌜ from + length (now list) ≤ length (now table) ⌝ }
-    ensures { λ r. ⌜ Laid from (now (list .entry)) (now (table .entry)) (now (table .exit)) ⌝ }
-{
-    let mut i = 0;
-    while i < list.len() {
-        table[from + i] = list[i];
-        i += 1;
-    }
-}
-
-fn put_table(starts: &[u16], rows: &[u16], table: &mut [u16])
-    requires { ⌜ length (now starts) + length (now rows) ≤ length (now table) ⌝ }
-    ensures { λ r. ⌜ Laid 0 (now (starts .entry) ++ now (rows .entry)) (now (table .entry)) (now (table .exit)) ⌝ }
-{
-    put(table, 0, starts);
-    put(table, starts.len(), rows);
-}
-
-// Whether the slice has room for the table of these offsets and rows; it is written where it has, if it is wanted.
-fn put_if(starts: &[u16], rows: &[u16], wanted: bool, table: &mut [u16]) -> Filled
-    requires { ⌜ length (now starts) + length (now rows) ≤ 25089 ⌝ }
-    ensures answer { λ r. ⌜ r ≡ filledBy (now (starts .entry) ++ now (rows .entry)) (length (now (table .entry))) ⌝ }
-    ensures content { λ r. ⌜ now (table .exit) ≡ cond wanted (laidBy (now (starts .entry) ++ now (rows .entry)) (now (table .entry))) (now (table .entry)) ⌝ }
-{
-    let size = starts.len() + rows.len();
-    if table.len() < size {
-        return Filled::Short;
-    }
-    if wanted {
-        put_table(starts, rows, table);
-    }
-    Filled::Entries(size)
-}
-
-// The same for the neighbour table of n vertices, made in an empty matrix and in rooms for the offsets and the rows.
+// Whether the slice has room for the neighbour table of n vertices; the table is written where it has, if it is wanted.
+// It is made in an empty matrix and in rooms for the offsets and the rows.
 fn fill_by(
     m: &mut [u8; 262144],
     starts: &mut [u16],

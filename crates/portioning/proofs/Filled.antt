@@ -9,8 +9,9 @@ use borrow.Author.Tests.{lt-ltb, le-ltb}
 use lib.IntN.{ℤ}
 use lib.ListN.{length, drop}
 use Rattle.space.specs.Arrays.{meshOf}
-use Rattle.neighbours.specs.declared.Filled.the-variants.{Entries, Short}
-use Rattle.neighbours.specs.Table.{tableOf, tableIn, filledBy, laidBy}
+use Rattle.rooms.specs.declared.Filled.the-variants.{Entries, Short}
+use Rattle.rooms.specs.Rooms.{filledBy, laidBy}
+use Rattle.neighbours.specs.Table.{tableOf, tableIn}
 use Rattle.neighbours.specs.Reading.{Tabled}
 use Rattle.neighbours.proofs.Tets.{table-in}
 

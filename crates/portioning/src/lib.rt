@@ -1,8 +1,8 @@
 // The portion of a mesh in arrays: refusals 10 and 11, the neighbour table, the marks of the facets, and the records of the cells after a mark.
-use neighbours::Filled;
 use record::Mark;
 use record::SIZE;
 use records::Answer;
+use rooms::Filled;
 ghost use mathlib.Core.Path.{_≡_};
 ghost use mathlib.Core.List.{[]};
 ghost use lib.Dec.{leb};

@@ -1,5 +1,5 @@
 // The record of a cell and the mark that a listing stands at: how many entries there are, and where each stands.
-use neighbours::put;
+use rooms::put;
 ghost use mathlib.Core.Path.{_≡_};
 ghost use Prim.Native.Nat.{_+_, _*_, _<_, _≤_};
 ghost use lib.ListN.{length, take};

@@ -3,7 +3,7 @@
 use Prim.Native.Nat.{ℕ}
 use mathlib.Core.Path.{_≡_, refl, sym, _∙_, ap}
 use mathlib.Core.Bool.{cond}
-use mathlib.Core.List.{List, [], _∷_, _++_}
+use mathlib.Core.List.{List, [], _∷_, _++_, map}
 use native.Mathlib.Omega.{arith}
 use lib.Dec.{eqb, ltb}
 use lib.ListN.{length, getD, drop}
@@ -15,7 +15,7 @@ use Rattle.layout.specs.Bytes.{signed32, i32At}
 use Rattle.layout.specs.Layout.{vertices, decoded, lengthRight, countsRight, layoutRight, coordsIn, labelsIn, partsIn}
 use Rattle.tets.specs.Tets.{boxAt, outside, twice, flat}
 use Rattle.facets.specs.Facets.{opposite, full, crowded, astray, clashes, clashing, folded}
-use Rattle.arrays.specs.Refusals.{refusals, refusal}
+use Rattle.arrays.specs.Refusals.{refusals, refusal, answered}
 use Rattle.turning.specs.declared.Least.the-variants.{Form}
 use Rattle.least.specs.Least.{rises, risesAt}
 use Rattle.turning.specs.Form.{leastBy, formBy, leastForm}
@@ -32,12 +32,13 @@ use Rattle.records.specs.Marks.{says}
 use Rattle.portioning.specs.Portion.{barred, portionBy, tableLeft, Portioned}
 use Rattle.portioning.proofs.Promised.{bars-file, bars-past}
 use Rattle.listing.proofs.File.{accepted-passed}
-use Rattle.worked.specs.Rows.{fileP, fileC, mixed, turned, tableP, tableC, Reply, left, formed, calling, least, ask, Worked}
+use Rattle.worked.specs.Rows.{fileP, fileC, mixed, turned, tableP, tableC, Reply, left, formed, calling, least, ask, checks, Worked}
 
 -- ---- the files' meshes and refusals
 
+-- what an answer of the check is computed by
 unfoldable reading : ℕ
-unfolding box signed32 i32At lengthRight countsRight layoutRight coordsIn labelsIn partsIn boxAt opposite outside twice flat full crowded astray clashes clashing folded firstOf refusal
+unfolding box signed32 i32At lengthRight countsRight layoutRight coordsIn labelsIn partsIn boxAt opposite outside twice flat full crowded astray clashes clashing folded firstOf refusal answered
 reading = 0
 
 reads-P : decoded fileP ≡ meshP
@@ -175,6 +176,10 @@ least-8 : ask (least 8 (1 ∷ 2 ∷ 3 ∷ 0 ∷ 5 ∷ 6 ∷ 7 ∷ 4 ∷ [])) ≡
 unfolding ask leastForm formBy leastBy risesAt rises keep
 least-8 = refl
 
+checked-right : map (λ r. ask (r .question)) checks ≡ map (λ r. r .reply) checks
+unfolding ask reading
+checked-right = refl
+
 -- one row and those after it
 infixr 5 _also_
 _also_ : {x y : Reply} {xs ys : List Reply} → x ≡ y → xs ≡ ys → x ∷ xs ≡ y ∷ ys
@@ -206,4 +211,4 @@ worked =
     also calls-C _ _ _
     also calls-C _ _ _
     also least-8
-    also refl
+    also checked-right

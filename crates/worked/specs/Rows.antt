@@ -1,13 +1,18 @@
--- Calls of `portion` on the meshes worked by hand, from the bytes of their files: one table of questions and answers, and one claim.
+-- The meshes worked by hand, from the bytes of their files: the check's answer, calls of `portion`, a least form and
+-- boxes, in one table of questions and answers under one claim.
 -- Assumes nothing.
 use Prim.Native.Nat.{ℕ}
 use mathlib.Core.Path.{_≡_}
 use mathlib.Core.Bool.{true, false}
 use mathlib.Core.List.{List, [], _∷_, _++_, map}
+use lib.IntN.{ℤ, pos, negsuc}
 use lib.ListN.{length, take, replicate}
+use Rattle.space.specs.Box.{box}
+use Rattle.space.specs.Mesh.{point}
 use Rattle.layout.specs.Layout.{vertices, decoded}
-use Rattle.arrays.specs.Refusals.{refusals}
-use Rattle.mesh.specs.Rows.{u16, joins, pyramid, cube}
+use Rattle.arrays.specs.Refusals.{refusals, checked}
+use Rattle.arrays.specs.declared.Checked.{Checked}
+use Rattle.arrays.specs.declared.Checked.the-variants.{Accepted, Refused}
 use Rattle.turning.specs.declared.Least.{Least}
 use Rattle.turning.specs.declared.Least.the-variants.{Form}
 use Rattle.turning.specs.Form.{leastForm, leastNumber}
@@ -15,6 +20,7 @@ use Rattle.once.specs.Rows.{listC}
 use Rattle.portions.specs.Portions.{Answer, refused, given, records}
 use Rattle.rule.specs.Rule.{tetRule}
 use Rattle.portioning.specs.Portion.{portionBy, tableLeft, roomLeft}
+use Rattle.worked.specs.Files.{u16, header, vertex, joins, file, minus, pyramid, cube, fan, lone}
 
 -- ---- the files
 
@@ -80,23 +86,33 @@ lastC = (5 ∷ 2 ∷ 5 ∷ 7 ∷ 3 ∷ 0 ∷ unused 3) ++ (2 ∷ 1 ∷ 4 ∷ unu
 -- ---- the questions, and the answers by the definitions
 
 pub data Question : Type 0 where
+  -- the check of a file
+  checking : (file : List ℕ) → Question
   -- a call on the file, from the mark on, with this table and this room
   calling : (file mark table room : List ℕ) → Question
   least : ℕ → List ℕ → Question
+  -- the box of four vertices of a file
+  boxing : (file : List ℕ) (a b c d : ℕ) → Question
 
 pub data Reply : Type 0 where
+  told : Checked → Reply
   -- the answer, and what the table and the room hold afterwards
   left : Answer → (table room : List ℕ) → Reply
   -- a least form or a refusal, with the refusal's number
   formed : ℕ → Least → Reply
+  boxed : ℤ → Reply
 
 unfoldable pub ask : Question → Reply
+ask (checking f) = told (checked f)
 ask (calling f k table room) =
     left
     (portionBy (refusals f) (decoded f) (vertices f) k (length table) (length room) .answer)
     (tableLeft (refusals f) (decoded f) (vertices f) table (length room))
     (roomLeft (refusals f) (decoded f) (vertices f) k (length table) room)
 ask (least k c) = formed (leastNumber (leastForm k c)) (leastForm k c)
+ask (boxing f a b c d) =
+    let p = point (decoded f) in
+    boxed (box (p a) (p b) (p c) (p d))
 
 pub record Row : Type 0 where
   pub question : Question
@@ -104,6 +120,88 @@ pub record Row : Type 0 where
 
 abbrev pub row : Question → Reply → Row
 row q r = record { question = q; reply = r }
+
+-- ---- the answer of the check
+
+-- a file that is accepted with these counts, and one that is refused with this number
+abbrev accept : List ℕ → ℕ → ℕ → Row
+accept f n t = row (checking f) (told (Accepted n t))
+
+abbrev refuse : List ℕ → ℕ → Row
+refuse f k = row (checking f) (told (Refused k))
+
+abbrev pub accepted : List Row
+accepted =
+    accept fileP 5 2
+    ∷ accept fileC 8 5
+    -- no vertices and no tetrahedra; vertices alone
+    ∷ accept (file [] []) 0 0
+    ∷ accept (lone 1 2 3) 1 0
+    -- the ends of the bounds
+    ∷ accept (lone 50000 0 0) 1 0
+    ∷ accept (lone 0 0 (minus 50000)) 1 0
+    -- two tetrahedra on both sides of a facet
+    ∷ accept (fan (joins 0 1 2 3 ∷ joins 2 1 0 5 ∷ [])) 6 2
+    ∷ []
+
+-- one fault each
+abbrev pub single : List Row
+single =
+    -- too short, too long, another length than the header's
+    refuse [] 1
+    ∷ refuse (replicate 23 0) 1
+    ∷ refuse (header 0 24 0 24 26649 0 ++ replicate 26625 0) 1
+    ∷ refuse (lone 1 2 3 ++ 0 ∷ []) 1
+    -- 513 vertices in a file of the greatest length, 2,049 tetrahedra
+    ∷ refuse (header 513 24 0 6180 26648 0 ++ replicate 26624 0) 2
+    ∷ refuse (header 0 24 2049 24 24 0) 2
+    -- 512 vertices and 2,048 tetrahedra, without their bytes; an offset, the other, the total, the zero
+    ∷ refuse (header 512 24 2048 6168 24 0) 3
+    ∷ refuse (header 0 28 0 24 24 0) 3
+    ∷ refuse (header 0 24 0 36 24 0) 3
+    ∷ refuse (header 0 24 0 24 34 0 ++ joins 0 0 0 0) 3
+    ∷ refuse (header 0 24 0 24 24 1) 3
+    -- past the ends of the bounds
+    ∷ refuse (lone 50001 0 0) 4
+    ∷ refuse (lone 0 0 (minus 50001)) 4
+    -- vertex number n
+    ∷ refuse (cube (joins 0 5 2 8)) 5
+    -- a vertex twice
+    ∷ refuse (cube (joins 0 5 2 5)) 6
+    -- a box of -2, a box of 0
+    ∷ refuse turned 7
+    ∷ refuse (pyramid (joins 0 1 2 3 ∷ [])) 7
+    -- three on a facet
+    ∷ refuse (fan (joins 0 1 2 3 ∷ joins 2 1 0 5 ∷ joins 1 2 0 4 ∷ [])) 8
+    -- two on one side of a facet; one tetrahedron in two parts
+    ∷ refuse (fan (joins 0 1 2 3 ∷ joins 1 2 0 4 ∷ [])) 9
+    ∷ refuse (fan (joins 0 1 2 3 ∷ joins 0 1 2 3 ∷ [])) 9
+    ∷ []
+
+-- two faults each, of which the lower number is told
+abbrev pub double : List Row
+double =
+    refuse (header 513 24 0 24 25 0) 1
+    ∷ refuse (header 513 28 0 24 24 0) 2
+    ∷ refuse (header 1 24 0 36 36 7 ++ vertex 50001 0 0) 3
+    ∷ refuse (file (vertex 50001 0 0 ∷ []) (joins 0 1 2 3 ∷ [])) 4
+    ∷ refuse (pyramid (joins 0 1 1 4 ∷ joins 0 2 3 5 ∷ [])) 5
+    ∷ refuse (pyramid (joins 0 2 1 4 ∷ joins 0 2 3 0 ∷ [])) 6
+    ∷ refuse (fan (joins 0 1 2 3 ∷ joins 0 1 2 3 ∷ joins 0 2 1 3 ∷ [])) 7
+    ∷ refuse (fan (joins 0 1 2 3 ∷ joins 0 1 2 4 ∷ joins 1 2 0 4 ∷ [])) 8
+    ∷ []
+
+-- the box of the cube's last tetrahedron, its vertices in two orders
+abbrev pub orders : List Row
+orders =
+    row (boxing turned 0 2 5 7) (boxed (negsuc 1))
+    ∷ row (boxing fileC 0 5 2 7) (boxed (pos 2))
+    ∷ []
+
+abbrev pub checks : List Row
+checks = accepted ++ single ++ double ++ orders
+
+-- ---- calls of `portion`
 
 -- nothing is written
 abbrev pub refusing : List ℕ → List ℕ → ℕ → ℕ → ℕ → Row
@@ -114,8 +212,8 @@ abbrev pub giving : List ℕ → List ℕ → ℕ → Answer → Row
 giving k written more a =
     row (calling fileC k (nines 45) (nines (length written) ++ nines more)) (left a tableC (written ++ nines more))
 
-abbrev pub table : List Row
-table =
+abbrev pub calls : List Row
+calls =
     -- P: one cell; with more room and a longer table, and with exactly enough of both; with a table one short
     row (calling fileP start (nines 26) (nines 37)) (left (given 1 true zeros) (tableP ++ nines 2) (recordP ++ nines 2)) ∷
     row (calling fileP start (nines 24) (nines 35)) (left (given 1 true zeros) tableP recordP) ∷
@@ -149,6 +247,11 @@ table =
     -- least form
     row (least 8 (1 ∷ 2 ∷ 3 ∷ 0 ∷ 5 ∷ 6 ∷ 7 ∷ 4 ∷ [])) (formed 0 (Form 0 1 2 3 4 5 6 7)) ∷
     []
+
+-- ---- the table
+
+abbrev pub table : List Row
+table = calls ++ checks
 
 -- the claim: the definitions give each row's reply
 abbrev pub Worked : Type 0

@@ -1,1 +1,2 @@
-// Calls of `portion` on the meshes worked by hand, from the bytes of their files. No code: specs/ has the rows, proofs/ that they hold.
+// The meshes worked by hand, from the bytes of their files: the check's answers and calls of `portion`. No code: specs/
+// has the rows, proofs/ that they hold.

@@ -1,6 +1,10 @@
--- `layout::layout_right` meets its contract. Assumes nothing.
+-- `layout::layout_right` meets its contract: at each return, the tests of `layoutRight` by those of the code.
+-- Assumes nothing.
+use Prim.Native.Nat.{_+_, _*_}
+use native.Mathlib.Omega.{arith}
 use borrow.Author.Tests.{eq-eqb, ne-eqb}
-use Rattle.layout.specs.Layout.{layoutRight}
+use Rattle.layout.specs.Bytes.{u32At}
+use Rattle.layout.specs.Layout.{vertices, tets, layoutRight}
 use borrow.Author.Needs.{needs}
 use Rattle.layout.proofs.layout_right.Statement.{statement}
 use Rattle.layout.proofs.layout_right.Tie as tie
@@ -16,7 +20,9 @@ u32-at-requires-3 c κs = search needs
 
 returns : tie.Need-returns
 unfolding layoutRight
-returns c = rw (← c .before .before .before .u32-at .ensures, ← c .before .before .u32-at2 .ensures, ← c .before .u32-at3 .ensures, ne-eqb _ _ (c .if1 .taken))
+returns c =
+    let f = c .before .before .before .before .before .args .file .now in
+    rw (ne-eqb (u32At f 4) 24 (λ e. c .if1 .taken (omega arith)))
 
 u32-at-requires-4 : tie.Need-u32-at-requires-4
 u32-at-requires-4 c κs = search needs
@@ -30,14 +36,8 @@ add-if2 c = search needs
 returns-2 : tie.Need-returns-2
 unfolding layoutRight
 returns-2 c =
-    rw (
-      ← c .before .before .before .before .before .u32-at .ensures,
-      ← c .before .before .before .before .u32-at2 .ensures,
-      ← c .before .before .before .u32-at3 .ensures,
-      eq-eqb _ _ (c .before .before .if1 .left),
-      ← c .before .u32-at4 .ensures,
-      ne-eqb _ _ (c .if2 .taken),
-    )
+    let f = c .before .before .before .before .before .before .before .args .file .now in
+    rw (eq-eqb (u32At f 4) 24 (omega arith), ne-eqb (u32At f 12) (24 + 12 * vertices f) (λ e. c .if2 .taken (omega arith)))
 
 u32-at-requires-5 : tie.Need-u32-at-requires-5
 u32-at-requires-5 c κs = search needs
@@ -57,15 +57,11 @@ add-if3-2 c = search needs
 returns-3 : tie.Need-returns-3
 unfolding layoutRight
 returns-3 c =
+    let f = c .before .before .before .before .before .before .before .before .before .args .file .now in
     rw (
-      ← c .before .before .before .before .before .before .before .u32-at .ensures,
-      ← c .before .before .before .before .before .before .u32-at2 .ensures,
-      ← c .before .before .before .before .before .u32-at3 .ensures,
-      eq-eqb _ _ (c .before .before .before .before .if1 .left),
-      ← c .before .before .before .u32-at4 .ensures,
-      eq-eqb _ _ (c .before .before .if2 .left),
-      ← c .before .u32-at5 .ensures,
-      ne-eqb _ _ (c .if3 .taken),
+      eq-eqb (u32At f 4) 24 (omega arith),
+      eq-eqb (u32At f 12) (24 + 12 * vertices f) (omega arith),
+      ne-eqb (u32At f 16) (24 + 12 * vertices f + 10 * tets f) (λ e. c .if3 .taken (omega arith)),
     )
 
 u32-at-requires-6 : tie.Need-u32-at-requires-6
@@ -74,15 +70,11 @@ u32-at-requires-6 c κs = search needs
 returns-4 : tie.Need-returns-4
 unfolding layoutRight
 returns-4 c =
+    let f = c .before .before .before .before .before .before .before .before .before .before .args .file .now in
     rw (
-      ← c .before .before .before .before .before .before .before .before .u32-at .ensures,
-      ← c .before .before .before .before .before .before .before .u32-at2 .ensures,
-      ← c .before .before .before .before .before .before .u32-at3 .ensures,
-      eq-eqb _ _ (c .before .before .before .before .before .if1 .left),
-      ← c .before .before .before .before .u32-at4 .ensures,
-      eq-eqb _ _ (c .before .before .before .if2 .left),
-      ← c .before .before .u32-at5 .ensures,
-      eq-eqb _ _ (c .before .if3 .left),
+      eq-eqb (u32At f 4) 24 (omega arith),
+      eq-eqb (u32At f 12) (24 + 12 * vertices f) (omega arith),
+      eq-eqb (u32At f 16) (24 + 12 * vertices f + 10 * tets f) (omega arith),
       ← c .u32-at6 .ensures,
     )
 

@@ -1,6 +1,6 @@
 -- `mesh::counts_of` meets its contract. Assumes nothing.
 use mathlib.Core.Path.{sym, ap, _∙_}
-use Rattle.mesh.specs.View.{sizesOf, sizesIn}
+use Rattle.mesh.specs.Counts.{sizesOf, sizesIn}
 use borrow.Author.Needs.{needs}
 use Rattle.mesh.proofs.counts_of.Statement.{statement}
 use Rattle.mesh.proofs.counts_of.Tie as tie

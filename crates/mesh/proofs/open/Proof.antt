@@ -39,7 +39,7 @@ use denote.Triple.Table.{entered, cited}
 use denote.Triple.Walked.{says, Stays, stay-none-slice, walkOf, goes-none-slice, Walks, ends-at, walked, walk-meets}
 use denote.Exit.{yes}
 use denote.Triple.Clauses.{ensured, lasts}
-use Rattle.mesh.specs.View.{sizesIn}
+use Rattle.mesh.specs.Counts.{sizesIn}
 use Rattle.mesh.specs.declared.View.{View}
 use Rattle.mesh.specs.declared.Sizes.{Sizes}
 use Rattle.mesh.proofs.View as T

@@ -5,7 +5,7 @@ use mathlib.Core.List.{List, [], _++_}
 use Prim.Native.Nat.{ℕ, _+_, _<_, _≤_}
 use native.Mathlib.Omega.{arith}
 use lib.ListN.{length, take}
-use Rattle.neighbours.specs.Table.{filledBy, laidBy}
+use Rattle.rooms.specs.Rooms.{filledBy, laidBy}
 use Rattle.neighbours.proofs.Growing.{grown-size, grown-fits}
 use Rattle.neighbours.proofs.Whole.{table-grown, rows-short}
 use borrow.Author.Needs.{needs}
@@ -36,11 +36,7 @@ slice-aggregate-put-if-2 : tie.Need-slice-aggregate-put-if-2
 slice-aggregate-put-if-2 c = grown-size (c .before .before .before .before .before .before .put-rows .ensures .1)
 
 put-if-requires : tie.Need-put-if-requires
-put-if-requires c κs =
-    let p = c .before .before .before .before .before .before .before .put-rows .ensures in
-    let s = c .before .before .before .before .before .before .before .before .before .before .before .before .before .before .before .before .before in
-    let f = rows-short (s .args .labels .now) (s .args .n) (s .pre .0 .0) (s .pre .0 .1 .1) (c .before .before .before .before .before .before .before .before .before .before .before .join-all .ensures) (s .pre .0 .1 .0 .few) (s .args .n) in
-    omega (arith, s .pre .0 .0, f, p .1 .ends, grown-size (p .0), grown-size (p .1))
+put-if-requires c κs = search needs
 
 same-length : tie.Need-same-length
 same-length c = search needs
