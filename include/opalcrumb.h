@@ -4,8 +4,8 @@
  * nothing between calls, asks for no memory, calls nothing of the system and may be used from any
  * number of threads. Each function answers 0, or the number of the refusal that applies.
  *
- * Every pointer must be good for the entries that its function names; a length may be 0, and the
- * pointer of an empty place must still not be NULL. Places lent to one call must not overlap.
+ * Every pointer must be good for the entries that its function names; where a length is 0, the
+ * pointer may be NULL. Places lent to one call must not overlap. A call takes up to 1 MiB of stack.
  */
 #ifndef OPALCRUMB_H
 #define OPALCRUMB_H
@@ -61,7 +61,7 @@ uint32_t opalcrumb_least_form(uint16_t kind, const uint16_t corners[8], uint16_t
  * table     room for the mesh's neighbour table, filled on 0 and on 12.
  * records   room for whole records of 35 entries, written from the start. What does not take a
  *           whole record is not touched.
- * count     how many records were written.
+ * count     how many records were written; 32 bits suffice for every room below 280 GiB.
  * end       1 where no cell is left after them, else 0.
  *
  * 1 to 9 for the file, 10 where the table is too short, 11 where there is no room for one record:

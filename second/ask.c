@@ -42,6 +42,9 @@ static uint32_t get32(void) {
     return x;
 }
 
+/* A lent place that is empty has no address. */
+#define LENT(place, len) ((len) ? (place) + GUARD : 0)
+
 /* Fills a lent place and what lies around it with numbers that tell one entry from the next. */
 static void lay(uint16_t *place, uint32_t len, uint32_t seed) {
     for (uint32_t i = 0; i < len + 2 * GUARD; i++) place[i] = (uint16_t)(seed + i * 40503u);
@@ -65,7 +68,7 @@ static void take_file(void) {
 }
 
 static void ask_check(void) {
-    uint32_t answer = opalcrumb_check(file + GUARD, file_len), kept = file_kept();
+    uint32_t answer = opalcrumb_check(LENT(file, file_len), file_len), kept = file_kept();
     put(&answer, 4);
     put(&kept, 4);
 }
@@ -103,8 +106,8 @@ static void ask_portion(void) {
     if (table_len > MOST_TABLE || records_len > MOST_RECORDS) _exit(4);
     lay(table, table_len, seed);
     lay(records, records_len, seed + 7);
-    answer = opalcrumb_portion(file + GUARD, file_len, mark, table + GUARD, table_len, records + GUARD, records_len,
-                               &count[1], &end[1]);
+    answer = opalcrumb_portion(LENT(file, file_len), file_len, mark, LENT(table, table_len), table_len,
+                               LENT(records, records_len), records_len, &count[1], &end[1]);
     kept = file_kept();
     put(&answer, 4);
     put(&kept, 4);
