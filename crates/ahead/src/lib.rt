@@ -50,8 +50,8 @@ fn shorter(labels: &[u16], n: usize, table: &[u16], marks: &[u8], u: Vertex, w: 
     requires { ⌜ Lent (now labels) n (now table) (now marks) ⌝ }
     ensures { λ r. ⌜ RowOf (meshOf [] (now (labels .entry)) []) n (now (table .entry)) (u .0) r ⊎ RowOf (meshOf [] (now (labels .entry)) []) n (now (table .entry)) (w .0) r ⌝ }
 {
-    let r = row_of(labels, n, table, u);
-    let q = row_of(labels, n, table, w);
+    let r = row_of(n, table, u);
+    let q = row_of(n, table, w);
     fewer(r, q)
 }
 
@@ -248,8 +248,8 @@ pub fn fuller(labels: &[u16], n: usize, table: &[u16], marks: &[u8], x: Vertex, 
     requires { ⌜ Lent (now labels) n (now table) (now marks) ⌝ }
     ensures { λ r. ⌜ (r ≡ x .0) ⊎ (r ≡ y .0) ⌝ }
 {
-    let p = row_of(labels, n, table, x);
-    let q = row_of(labels, n, table, y);
+    let p = row_of(n, table, x);
+    let q = row_of(n, table, y);
     if p.size < q.size { y.0 } else { x.0 }
 }
 

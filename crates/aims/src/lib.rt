@@ -15,13 +15,12 @@ use space::Vertex;
 ghost use mathlib.Core.Path.{_≡_};
 ghost use mathlib.Core.Logic.{_⊎_};
 ghost use mathlib.Core.Bool.{true, false};
-ghost use mathlib.Core.List.{[]};
 ghost use Prim.Native.Nat.{_<_, _≤_};
 ghost use lib.Dec.{eqb};
 ghost use lib.ListN.{length};
-ghost use Rattle.space.specs.Arrays.{meshOf, Close};
+ghost use Rattle.space.specs.Arrays.{Close};
 ghost use Rattle.marks.specs.Marks.{places};
-ghost use Rattle.neighbours.specs.Reading.{Tabled};
+ghost use Rattle.neighbours.specs.Reading.{Rowed};
 ghost use Rattle.ahead.specs.Ahead.{Lent, Only, Least};
 ghost use Rattle.levels.specs.Levels.{look, levels};
 ghost use Rattle.aims.specs.Aims.{floorOf, ClosesPair, Follows, LinksFirst, Aims, Fit, Goes, Stops};
@@ -71,7 +70,7 @@ fn aim_among(
     let o = q.other;
     let p = q.vertex;
     let v = fuller(labels, n, table, marks, Vertex(o), Vertex(p));
-    let row = row_of(labels, n, table, Vertex(v));
+    let row = row_of(n, table, Vertex(v));
     if row.size <= HUB {
         return Aim {
             some: true,
@@ -312,59 +311,42 @@ fn is_hub(tables: &[u8], x: usize, size: usize) -> bool
 }
 
 // How many neighbours the one with fewer has of the pair at the entries i and i + 1 of row x.
-fn pair_size(
-    tables: &[u8],
-    labels: &[u16],
-    n: usize,
-    table: &[u16],
-    t: [u16; 8],
-    x: usize,
-    i: usize,
-) -> usize
-    requires { ⌜ (now tables ≡ levels) × (Tabled (meshOf [] (now labels) []) n (now table) × ((x < 19) × (i < 5))) ⌝ }
+fn pair_size(tables: &[u8], n: usize, table: &[u16], t: [u16; 8], x: usize, i: usize) -> usize
+    requires { ⌜ (now tables ≡ levels) × (Rowed n (now table) × ((x < 19) × (i < 5))) ⌝ }
 {
     let u = t[look_of(tables, x, i)];
     let w = t[look_of(tables, x, i + 1)];
-    let r = row_of(labels, n, table, Vertex(u));
-    let q = row_of(labels, n, table, Vertex(w));
+    let r = row_of(n, table, Vertex(u));
+    let q = row_of(n, table, Vertex(w));
     let one = fewer(r, q);
     one.size
 }
 
 // Whether looking ahead pays where a row of this size would be gone through: a pair of row x has few neighbours beside it.
-fn is_far(
-    tables: &[u8],
-    labels: &[u16],
-    n: usize,
-    table: &[u16],
-    t: [u16; 8],
-    x: usize,
-    size: usize,
-) -> bool
-    requires { ⌜ (now tables ≡ levels) × (Tabled (meshOf [] (now labels) []) n (now table) × (x < 19)) ⌝ }
+fn is_far(tables: &[u8], n: usize, table: &[u16], t: [u16; 8], x: usize, size: usize) -> bool
+    requires { ⌜ (now tables ≡ levels) × (Rowed n (now table) × (x < 19)) ⌝ }
 {
     let most = size / 4;
-    if pair_size(tables, labels, n, table, t, x, 0) <= most {
+    if pair_size(tables, n, table, t, x, 0) <= most {
         return true;
     }
-    pair_size(tables, labels, n, table, t, x, 3) <= most
+    pair_size(tables, n, table, t, x, 3) <= most
 }
 
 // Whether to look ahead at row x, where a row of this size would be gone through.
 pub fn looks_ahead(
     tables: &[u8],
-    labels: &[u16],
     n: usize,
     table: &[u16],
     t: [u16; 8],
     x: usize,
     size: usize,
 ) -> bool
-    requires { ⌜ (now tables ≡ levels) × (Tabled (meshOf [] (now labels) []) n (now table) × (x < 19)) ⌝ }
+    requires { ⌜ (now tables ≡ levels) × (Rowed n (now table) × (x < 19)) ⌝ }
     ensures { λ r. ⌜ (r ≡ true → eqb (look x 0) (look x 1) ≡ false) ⌝ }
 {
     if is_hub(tables, x, size) {
-        return is_far(tables, labels, n, table, t, x, size);
+        return is_far(tables, n, table, t, x, size);
     }
     false
 }

@@ -13,7 +13,7 @@ ghost use Rattle.space.specs.Arrays.{meshOf};
 ghost use Rattle.around.specs.Index.{Labelled};
 ghost use Rattle.neighbours.specs.Table.{rowOf, rowsOf, offsets, filledBy, laidBy, filledOf, tableAfter};
 ghost use Rattle.neighbours.specs.Grown.{Grown, partOf, Few};
-ghost use Rattle.neighbours.specs.Reading.{Tabled, RowOf};
+ghost use Rattle.neighbours.specs.Reading.{rowIn, Rowed};
 ghost use Rattle.matrix.specs.Matrix.{isJoined, Empty};
 
 // A row of the table: where it starts, and how many entries it has.
@@ -170,9 +170,9 @@ pub fn fill_if(labels: &[u16], n: usize, wanted: bool, table: &mut [u16]) -> Fil
 // ---- reading a table
 
 // The row of a vertex: its neighbours, rising. It is empty where there is no such vertex.
-pub fn row_of(labels: &[u16], n: usize, table: &[u16], v: Vertex) -> Row
-    requires { ⌜ Tabled (meshOf [] (now labels) []) n (now table) ⌝ }
-    ensures { λ r. ⌜ RowOf (meshOf [] (now (labels .entry)) []) n (now (table .entry)) (v .0) r ⌝ }
+pub fn row_of(n: usize, table: &[u16], v: Vertex) -> Row
+    requires { ⌜ Rowed n (now table) ⌝ }
+    ensures { λ r. ⌜ r ≡ rowIn n (now (table .entry)) (v .0) ⌝ }
 {
     let u = v.0 as usize;
     if u < n {

@@ -18,8 +18,8 @@ use Rattle.space.specs.Mesh.{together}
 use Rattle.space.specs.Arrays.{pointAt, meshOf}
 use Rattle.templates.specs.Tables.{templateOf}
 use Rattle.neighbours.specs.declared.Row.{Row}
-use Rattle.neighbours.specs.Reading.{RowOf, entriesOf}
-use Rattle.neighbours.proofs.Reading.{entries-rise, entries-have}
+use Rattle.neighbours.specs.Reading.{RowOf, rowIn, entriesOf}
+use Rattle.neighbours.proofs.Reading.{row-of-in, entries-rise, entries-have}
 use Rattle.portions.specs.Tuples.{Agree, Skips}
 use Rattle.rule.specs.Rule.{isLeaf}
 use Rattle.levels.specs.Levels.{base, joined, also, third}
@@ -72,11 +72,11 @@ module _ {zs : List ℤ} {ls : List ℕ} {n : ℕ} {ms table : List ℕ} (g : So
   -- the rows of the joined corners, and those that are chosen among them
   module _ (z : d ≡ 0 → ⊥) where
     module _ {x : ℕ} (e : x ≡ base k + d) where
-      joined-serves : {l : List ℕ} → List·Memᴰ l joinedBy → {i : ℕ} → i ≡ getD l x 0 → {r : Row} → RowOf (meshOf [] ls []) n table (getD t i 0) r → Serves r
+      joined-serves : {l : List ℕ} → List·Memᴰ l joinedBy → {i : ℕ} → i ≡ getD l x 0 → {r : Row} → r ≡ rowIn n table (getD t i 0) → Serves r
       joined-serves {l} i f w =
-          row-serves w (getD l (base k + d) 0) (ap (λ y. getD t y 0) (f ∙ ap (λ y. getD l y 0) e)) (λ ps s leaf. leaf-joined zs ls ps k s leaf d h z i)
+          row-serves (row-of-in (g .lent .tabled) _ w) (getD l (base k + d) 0) (ap (λ y. getD t y 0) (f ∙ ap (λ y. getD l y 0) e)) (λ ps s leaf. leaf-joined zs ls ps k s leaf d h z i)
 
-      pub chosen-serve : {i j l : ℕ} → i ≡ getD joined x 0 → j ≡ getD also x 0 → l ≡ getD third x 0 → {r q s f one two : Row} → RowOf (meshOf [] ls []) n table (getD t i 0) r → RowOf (meshOf [] ls []) n table (getD t j 0) q → RowOf (meshOf [] ls []) n table (getD t l 0) s → (f ≡ r) ⊎ (f ≡ q) → (one ≡ f) ⊎ (one ≡ s) → (two ≡ f) ⊎ (two ≡ s) → Serves one × Serves two
+      pub chosen-serve : {i j l : ℕ} → i ≡ getD joined x 0 → j ≡ getD also x 0 → l ≡ getD third x 0 → {r q s f one two : Row} → r ≡ rowIn n table (getD t i 0) → q ≡ rowIn n table (getD t j 0) → s ≡ rowIn n table (getD t l 0) → (f ≡ r) ⊎ (f ≡ q) → (one ≡ f) ⊎ (one ≡ s) → (two ≡ f) ⊎ (two ≡ s) → Serves one × Serves two
       chosen-serve e1 e2 e3 {s = s} {f = f} w1 w2 w3 a b c =
           let first : Serves f = either-serves (joined-serves (List·Memᴰ·head refl) e1 w1) (joined-serves (List·Memᴰ·tail (List·Memᴰ·head refl)) e2 w2) a in
           let last : Serves s = joined-serves (List·Memᴰ·tail (List·Memᴰ·tail (List·Memᴰ·head refl))) e3 w3 in

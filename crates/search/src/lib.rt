@@ -76,12 +76,12 @@ fn seek(
     }
     let x = base_of(kind) + d;
     let from = rise(tables, t, x, lo);
-    let r = row_of(labels, n, table, Vertex(t[joined_of(tables, x)]));
-    let q = row_of(labels, n, table, Vertex(t[also_of(tables, x)]));
-    let s = row_of(labels, n, table, Vertex(t[third_of(tables, x)]));
+    let r = row_of(n, table, Vertex(t[joined_of(tables, x)]));
+    let q = row_of(n, table, Vertex(t[also_of(tables, x)]));
+    let s = row_of(n, table, Vertex(t[third_of(tables, x)]));
     let f = nearer(tables, x, r, q);
     let one = fewer(f, s);
-    if looks_ahead(tables, labels, n, table, t, x, one.size) {
+    if looks_ahead(tables, n, table, t, x, one.size) {
         return hunt(tables, coords, labels, n, table, marks, t, x, d, from);
     }
     let two = partner(f, s);

@@ -1,15 +1,15 @@
 -- `ahead::fuller` meets its contract. Assumes nothing.
 use mathlib.Core.Path.{refl}
 use mathlib.Core.Logic.{inl, inr}
-use borrow.Author.Needs.{needs}
+use Rattle.neighbours.proofs.Reading.{tabled-rowed}
 use Rattle.ahead.proofs.fuller.Statement.{statement}
 use Rattle.ahead.proofs.fuller.Tie as tie
 
 row-of-requires : tie.Need-row-of-requires
-row-of-requires c κs = c .before .before .before .pre .tabled
+row-of-requires c κs = tabled-rowed (c .before .before .before .pre .tabled)
 
 row-of-requires-2 : tie.Need-row-of-requires-2
-row-of-requires-2 c κs = c .before .before .before .before .pre .tabled
+row-of-requires-2 c κs = tabled-rowed (c .before .before .before .before .pre .tabled)
 
 returns : tie.Need-returns
 returns c = inr refl

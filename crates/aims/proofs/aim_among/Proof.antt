@@ -4,6 +4,7 @@ use mathlib.Core.Logic.{inl, inr, ⊎-elim}
 use mathlib.Core.Bool.{true≢false, false≢true}
 use native.Mathlib.Omega.{arith}
 use borrow.Author.Needs.{needs}
+use Rattle.neighbours.proofs.Reading.{tabled-rowed}
 use Rattle.aims.proofs.aim_among.Statement.{statement}
 use Rattle.aims.proofs.aim_among.Tie as tie
 
@@ -11,7 +12,7 @@ fuller-requires : tie.Need-fuller-requires
 fuller-requires c κs = search needs
 
 row-of-requires : tie.Need-row-of-requires
-row-of-requires c κs = search needs
+row-of-requires c κs = tabled-rowed (c .before .before .before .before .pre .0 .tabled)
 
 returns : tie.Need-returns
 returns c = record { none = λ e. absurd (true≢false e); each = λ e. (refl, inl refl); either = λ e. absurd (true≢false e) }

@@ -3,6 +3,7 @@ use mathlib.Core.Path.{_≡_, ap}
 use Prim.Native.Nat.{_+_}
 use lib.ListN.{length}
 use native.Mathlib.Omega.{arith}
+use Rattle.neighbours.proofs.Reading.{tabled-rowed}
 use Rattle.levels.specs.Levels.{base}
 use Rattle.search.proofs.Tables.{row-in}
 use Rattle.search.proofs.Scanning.{chosen-serve, meet-skips, points-are}
@@ -42,7 +43,7 @@ array-read-t26 : tie.Need-array-read-t26
 array-read-t26 c = search needs
 
 row-of-requires : tie.Need-row-of-requires
-row-of-requires c κs = search needs
+row-of-requires c κs = tabled-rowed (c .before .before .before .before .before .before .before .before .pre .1 .0 .lent .tabled)
 
 also-of-requires : tie.Need-also-of-requires
 also-of-requires c κs =
@@ -57,7 +58,7 @@ array-read-t26-2 : tie.Need-array-read-t26-2
 array-read-t26-2 c = search needs
 
 row-of-requires-2 : tie.Need-row-of-requires-2
-row-of-requires-2 c κs = search needs
+row-of-requires-2 c κs = tabled-rowed (c .before .before .before .before .before .before .before .before .before .before .pre .1 .0 .lent .tabled)
 
 third-of-requires : tie.Need-third-of-requires
 third-of-requires c κs =
@@ -72,7 +73,7 @@ array-read-t26-3 : tie.Need-array-read-t26-3
 array-read-t26-3 c = search needs
 
 row-of-requires-3 : tie.Need-row-of-requires-3
-row-of-requires-3 c κs = c .before .before .before .before .before .before .before .before .before .before .before .before .pre .1 .0 .lent .tabled
+row-of-requires-3 c κs = tabled-rowed (c .before .before .before .before .before .before .before .before .before .before .before .before .pre .1 .0 .lent .tabled)
 
 nearer-requires : tie.Need-nearer-requires
 nearer-requires c κs =
@@ -87,7 +88,7 @@ looks-ahead-requires : tie.Need-looks-ahead-requires
 looks-ahead-requires c κs =
     let b = c .before .before .before .before .before .before .before .before .before in
     let z = b .before .before .before .before .before .before in
-    (z .pre .0, (z .pre .1 .0 .lent .tabled, omega (arith, row-in (z .args .kind) (z .args .d) (z .pre .1 .1), b .base-of .ensures .0)))
+    (z .pre .0, (tabled-rowed (z .pre .1 .0 .lent .tabled), omega (arith, row-in (z .args .kind) (z .args .d) (z .pre .1 .1), b .base-of .ensures .0)))
 
 hunt-requires : tie.Need-hunt-requires
 hunt-requires c κs =
