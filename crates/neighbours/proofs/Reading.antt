@@ -17,7 +17,7 @@ use Rattle.space.specs.Mesh.{Mesh, together}
 use Rattle.neighbours.specs.declared.Row.{Row}
 use Rattle.neighbours.specs.Table.{rowOf, rowsOf, offsets, tableBy, neighboursOf, tableOf}
 use Rattle.matrix.specs.Matrix.{nextTo}
-use Rattle.neighbours.specs.Reading.{Tabled, Rowed, RowOf, rowIn, entriesOf}
+use Rattle.neighbours.specs.Reading.{Tabled, Rowed, RowOf, rowIn, entriesOf, InRow}
 use Rattle.neighbours.proofs.Rows.{offs, offs-all, length-offs, rows-more, rows-up, rows-le, length-table}
 
 module _ (row : ℕ → List ℕ) (n : ℕ) (rest : List ℕ) where
@@ -157,5 +157,7 @@ module _ {m : Mesh} {n : ℕ} {table : List ℕ} {u : ℕ} {r : Row} (w : RowOf 
     | no l ↦ absurd (let o : ⊥ = omega (arith, b, size, w .empty (omega arith)) in o)
   ]
 
-  pub entries-have : {v : ℕ} → u < n → v < n → eqb u v ≡ false → together m (u ∷ v ∷ []) ≡ true → (i : ℕ) × (i < length (entriesOf table r)) × (getD (entriesOf table r) i 0 ≡ v)
-  entries-have {v} l h z t = let f = row-has m n u v h z t in (f .0, omega (arith, f .1, size, w .whole l), entry l (f .0) (f .1) ∙ f .2)
+  pub entries-have : {v : ℕ} → u < n → v < n → eqb u v ≡ false → together m (u ∷ v ∷ []) ≡ true → InRow table r v
+  entries-have {v} l h z t =
+      let f = row-has m n u v h z t in
+      record { place = f .0; before = omega (arith, f .1, size, w .whole l); is = entry l (f .0) (f .1) ∙ f .2 }

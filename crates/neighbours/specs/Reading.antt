@@ -35,3 +35,9 @@ pub record RowOf (m : Mesh) (n : ℕ) (table : List ℕ) (v : ℕ) (r : Row) : T
 -- the entries of a row of the table
 abbrev pub entriesOf : List ℕ → Row → List ℕ
 entriesOf table r = take (r .from + r .size - r .from) (drop (r .from) table)
+
+-- v is one of them
+pub record InRow (table : List ℕ) (r : Row) (v : ℕ) : Type 0 where
+  pub place : ℕ
+  pub before : place < length (entriesOf table r)
+  pub is : getD (entriesOf table r) place 0 ≡ v

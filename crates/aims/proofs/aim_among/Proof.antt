@@ -4,7 +4,6 @@ use mathlib.Core.Logic.{inl, inr, ⊎-elim}
 use mathlib.Core.Bool.{true≢false, false≢true}
 use native.Mathlib.Omega.{arith}
 use borrow.Author.Needs.{needs}
-use Rattle.neighbours.proofs.Reading.{tabled-rowed}
 use Rattle.aims.proofs.aim_among.Statement.{statement}
 use Rattle.aims.proofs.aim_among.Tie as tie
 
@@ -12,25 +11,25 @@ fuller-requires : tie.Need-fuller-requires
 fuller-requires c κs = search needs
 
 row-of-requires : tie.Need-row-of-requires
-row-of-requires c κs = tabled-rowed (c .before .before .before .before .pre .0 .tabled)
+row-of-requires c κs = search needs
 
 returns : tie.Need-returns
 returns c = record { none = λ e. absurd (true≢false e); each = λ e. (refl, inl refl); either = λ e. absurd (true≢false e) }
 
 returns-2 : tie.Need-returns-2
 returns-2 c =
-    let z = c .before .before .before .before .before .before .before .before .before in
-    record { none = λ e. absurd (true≢false e); each = λ e. absurd (false≢true e); either = λ e. (z .pre .1 .0, inr (omega arith, λ y l. ⊎-elim inr inl (z .pre .1 .1 y l .two (c .if3 .taken)))) }
+    let z = c .before .before .before .before .before .before .before in
+    record { none = λ e. absurd (true≢false e); each = λ e. absurd (false≢true e); either = λ e. (z .pre .1, inr (omega arith, λ y l. ⊎-elim inr inl (l .two (c .if3 .taken)))) }
 
 returns-3 : tie.Need-returns-3
 returns-3 c =
-    let z = c .before .before .before .before .before .before .before .before .before in
-    record { none = λ e. absurd (true≢false e); each = λ e. absurd (false≢true e); either = λ e. (z .pre .1 .0, inl refl) }
+    let z = c .before .before .before .before .before .before .before in
+    record { none = λ e. absurd (true≢false e); each = λ e. absurd (false≢true e); either = λ e. (z .pre .1, inl refl) }
 
 returns-4 : tie.Need-returns-4
 returns-4 c =
-    let z = c .before .before .before .before .before .before .before .before in
-    record { none = λ e. absurd (true≢false e); each = λ e. absurd (false≢true e); either = λ e. (z .pre .1 .0, inl refl) }
+    let z = c .before .before .before .before .before .before in
+    record { none = λ e. absurd (true≢false e); each = λ e. absurd (false≢true e); either = λ e. (z .pre .1, inl refl) }
 
 pub aim-among-spec : {M : Type 1} → statement M
 aim-among-spec =
