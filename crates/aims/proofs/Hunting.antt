@@ -2,7 +2,7 @@
 -- Assumes nothing.
 use Prim.Native.Nat.{ℕ, _+_, _-_, _<_, _≤_}
 use mathlib.Core.Path.{_≡_, sym, _∙_, subst}
-use mathlib.Core.Logic.{⊎-elim}
+use mathlib.Core.Logic.{inl, inr, ⊎-elim}
 use mathlib.Core.Bool.{Bool, true, false, not, true≢false}
 use mathlib.Core.List.{List}
 use native.Mathlib.Omega.{arith}
@@ -10,34 +10,53 @@ use native.Mathlib.Decide.{decLt}
 use borrow.Author.Tests.{not-true}
 use lib.IntN.{ℤ}
 use lib.ListN.{set}
-use Rattle.ahead.specs.Ahead.{Least}
+use Rattle.reaching.specs.declared.Edge.{Edge}
+use Rattle.reaching.specs.Reaching.{Closes, Least}
 use Rattle.levels.specs.Fits.{fits}
-use Rattle.aims.specs.Aims.{ClosesPair, Follows, Aims, Fit, Goes, Stops}
+use Rattle.aims.specs.Aims.{edgeAt, Follows, LinksFirst, Aims, Fit, Goes, Stops}
 
--- one leap alone
-pub leap-first : {ls t : List ℕ} {x o p n lo v : ℕ} {both : Bool} → Least (ClosesPair ls t x 0 o p) lo n v → both ≡ true → Least (Follows ls t x o p both) lo n v
-leap-first a e = record { most = a .most; low = a .low; least = λ y f h. a .least y (f .each e .0) h }
+-- ── what links the first three ──
 
-module _ {ls t : List ℕ} {x o p n lo v r : ℕ} {both : Bool} (a : Least (ClosesPair ls t x 0 o p) lo n v) where
-  -- one leap after another
-  pub leap-each : both ≡ true → Least (ClosesPair ls t x 3 o p) v n r → Least (Follows ls t x o p both) lo n r
-  leap-each e b = record {
-    most = b .most;
-    low = λ h. let g = b .low h in omega (arith, a .low (omega arith));
-    least = λ y f h. b .least y (f .each e .1) (a .least y (f .each e .0) h);
-  }
+pub aims-of : {P Q : ℕ → Type 0} {x : ℕ} {some both : Bool} {o p : ℕ} → ((y : ℕ) → P y → Q y) → Aims Q x some both o p → Aims P x some both o p
+aims-of f a = record {
+  none = λ e. let n = a .none e in (n .0, λ y p. n .1 y (f y p));
+  each = λ e. let n = a .each e in (n .0, ⊎-elim inl (λ m. inr (⊎-elim inl (λ k. inr (k .0, λ y p. k .1 y (f y p))) m)) (n .1));
+  either = λ e. let n = a .either e in (n .0, ⊎-elim inl (λ k. inr (k .0, λ y p. k .1 y (f y p))) (n .1));
+}
 
-  -- the least of two leaps and of p and o
-  module _ (e : both ≡ false) (b : Least (ClosesPair ls t x 3 o p) lo n r) where
-    pub leap-some : {m q y : ℕ} → m ≤ v → m ≤ r → (m < n → lo ≤ m) → Least (λ y. y ≡ p) lo m q → Least (λ y. y ≡ o) lo q y → Least (Follows ls t x o p both) lo n y
-    leap-some {m} {q} {y} i j g c d = record {
-      most = omega (arith, a .most, c .most, d .most);
-      low = λ h. elim (decLt y q) [
-        | yes k ↦ d .low k
-        | no k ↦ elim (decLt q m) [ yes z ↦ omega (arith, k, c .low z) | no z ↦ omega (arith, k, z, c .most, g (omega (arith, k, z, c .most))) ]
-      ];
-      least = λ w f h. ⊎-elim (λ z. ⊎-elim (λ z. d .least w z h) (λ z. omega (arith, c .least w z h, d .most)) z) (λ z. ⊎-elim (λ z. omega (arith, a .least w z h, c .most, d .most)) (λ z. omega (arith, b .least w z h, c .most, d .most)) z) (f .some e);
-    }
+-- ── a leap ──
+
+over : {n : ℕ} {table ms : List ℕ} {e f : Edge} {lo v : ℕ} → e ≡ f → Least (Closes n table ms e) lo n v → Least (Closes n table ms f) lo n v
+over {n} {table} {ms} {e} {f} {lo} {v} q a = subst (λ e. Least (Closes n table ms e) lo n v) q a
+
+module _ {n : ℕ} {table ms t : List ℕ} {x o p lo v : ℕ} {both : Bool} {one : Edge} (q : one ≡ edgeAt t x 0 o p) (a : Least (Closes n table ms one) lo n v) where
+  -- over one edge alone
+  pub leap-first : both ≡ true → Least (Follows n table ms t x o p both) lo n v
+  leap-first e = record { most = a .most; low = a .low; least = λ y f h. over q a .least y (f .each e .0) h }
+
+  module _ {two : Edge} (z : two ≡ edgeAt t x 3 o p) {r : ℕ} where
+    -- over one after the other
+    pub leap-each : both ≡ true → Least (Closes n table ms two) v n r → Least (Follows n table ms t x o p both) lo n r
+    leap-each e c =
+        let b = over z c in
+        record {
+          most = b .most;
+          low = λ h. let g = b .low h in omega (arith, a .low (omega arith));
+          least = λ y f h. b .least y (f .each e .1) (over q a .least y (f .each e .0) h);
+        }
+
+    -- the least of two leaps and of p and o
+    pub leap-some : both ≡ false → Least (Closes n table ms two) lo n r → {m k y : ℕ} → m ≤ v → m ≤ r → (m < n → lo ≤ m) → Least (λ y. y ≡ p) lo m k → Least (λ y. y ≡ o) lo k y → Least (Follows n table ms t x o p both) lo n y
+    leap-some e s {m} {k} {y} i j g c d =
+        let b = over z s in
+        record {
+          most = omega (arith, a .most, c .most, d .most);
+          low = λ h. elim (decLt y k) [
+            | yes l ↦ d .low l
+            | no l ↦ elim (decLt k m) [ yes z ↦ omega (arith, l, c .low z) | no z ↦ omega (arith, l, z, c .most, g (omega (arith, l, z, c .most))) ]
+          ];
+          least = λ w f h. ⊎-elim (λ z. ⊎-elim (λ z. d .least w z h) (λ z. omega (arith, c .least w z h, d .most)) z) (λ z. ⊎-elim (λ z. omega (arith, over q a .least w z h, c .most, d .most)) (λ z. omega (arith, b .least w z h, c .most, d .most)) z) (f .some e);
+        }
 
 -- ── the hunt ──
 
@@ -88,15 +107,15 @@ module _ (zs : List ℤ) (ms : List ℕ) (x d : ℕ) (t : List ℕ) where
   pub stops-fit : {n v : ℕ} {r : Bool} → r ≡ fits zs ms x d (set t d v) → Stops (Fit zs ms x d t) n v r
   stops-fit {n} {v} {r} e = record { none = λ f h g. true≢false (sym (e ∙ g) ∙ f) }
 
-  pub stops-goes : {ls : List ℕ} {n v : ℕ} {r : Bool} → Stops (Fit zs ms x d t) n v r → Stops (Goes zs ls ms x d t) n v r
+  pub stops-goes : {table : List ℕ} {n v : ℕ} {r : Bool} → Stops (Fit zs ms x d t) n v r → Stops (Goes zs n table ms x d t) n v r
   stops-goes s = record { none = λ f h g. s .none f h (g .fit) }
 
-module _ {zs : List ℤ} {ls ms : List ℕ} {x d : ℕ} {t : List ℕ} where
-  module _ {some both : Bool} {o p : ℕ} (q : Aims ls t x some both o p) where
-    pub goes-follows : (v : ℕ) → Goes zs ls ms x d t v → Follows ls t x o p both v
+module _ {zs : List ℤ} {n : ℕ} {table ms : List ℕ} {x d : ℕ} {t : List ℕ} where
+  module _ {some both : Bool} {o p : ℕ} (q : Aims (LinksFirst n table ms t) x some both o p) where
+    pub goes-follows : (v : ℕ) → Goes zs n table ms x d t v → Follows n table ms t x o p both v
     goes-follows v g = g .follows some both o p q .1
 
-    pub hunt-none : {lo n : ℕ} → not some ≡ true → Least (Goes zs ls ms x d t) lo n n
+    pub hunt-none : {lo : ℕ} → not some ≡ true → Least (Goes zs n table ms x d t) lo n n
     hunt-none e = record {
       most = omega arith;
       low = λ g. absurd (let z : ⊥ = omega arith in z);

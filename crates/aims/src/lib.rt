@@ -1,30 +1,30 @@
 // The look-ahead's aims: at a place whose joined corners have many neighbours, which vertices can follow there is told by the faces to come.
 // A tuple is kept in search order; x is the row of a place in the tables of the levels.
-use ahead::Bar;
-use ahead::Linking;
-use ahead::beyond;
-use ahead::fewer;
-use ahead::fuller;
-use ahead::fullest;
-use ahead::lower;
-use ahead::sole;
 use levels::look_of;
 use levels::tries;
+use linking::Linking;
+use linking::fuller;
+use linking::fullest;
+use linking::sole;
 use neighbours::row_of;
+use reaching::Edge;
+use reaching::beyond;
+use reaching::fewer;
+use reaching::lower;
 use space::Vertex;
 ghost use mathlib.Core.Path.{_≡_};
 ghost use mathlib.Core.Logic.{_⊎_};
 ghost use mathlib.Core.Bool.{true, false};
-ghost use mathlib.Core.List.{[]};
 ghost use Prim.Native.Nat.{_<_, _≤_};
 ghost use lib.Dec.{eqb};
 ghost use lib.ListN.{length};
 ghost use Rattle.space.specs.Arrays.{Close};
 ghost use Rattle.marks.specs.Marks.{places};
-ghost use Rattle.neighbours.specs.Reading.{Tabled};
-ghost use Rattle.ahead.specs.Ahead.{Lent, Only, Least};
+ghost use Rattle.neighbours.specs.Reading.{Rowed};
+ghost use Rattle.reaching.specs.Reaching.{Lent, Least};
+ghost use Rattle.linking.specs.Covers.{Covers};
 ghost use Rattle.levels.specs.Levels.{look, levels};
-ghost use Rattle.aims.specs.Aims.{floorOf, ClosesPair, Follows, LinksFirst, Aims, Fit, Goes, Stops};
+ghost use Rattle.aims.specs.Aims.{floorOf, edgeAt, Follows, LinksFirst, Aims, Fit, Goes, Stops};
 
 // A place looks ahead where its rows are longer than this. That is a matter of speed alone.
 const HUB: usize = 24;
@@ -55,23 +55,14 @@ struct Aim {
 
 // By the vertices q that link the first three corners. One with many neighbours is barred: it may link both side faces only if it is place 3 itself.
 // Where at row 3 a pair links them, both are barred: one of them is a corner of that face.
-fn aim_among(
-    labels: &[u16],
-    n: usize,
-    table: &[u16],
-    marks: &[u8],
-    t: [u16; 8],
-    x: usize,
-    q: Linking,
-) -> Aim
-    requires { ⌜ Lent (now labels) n (now table) (now marks) ⌝ }
-    requires { ⌜ ((x ≡ 3) ⊎ (x ≡ 11)) × Only (LinksFirst (now labels) t) q ⌝ }
-    ensures { λ r. ⌜ Aims (now (labels .entry)) t x (r .some) (r .both) (r .o) (r .p) ⌝ }
+fn aim_among(n: usize, table: &[u16], x: usize, q: Linking) -> Aim
+    requires { ⌜ Rowed n (now table) × ((x ≡ 3) ⊎ (x ≡ 11)) ⌝ }
+    ensures { λ r. ⌜ Aims (Covers q) x (r .some) (r .both) (r .o) (r .p) ⌝ }
 {
     let o = q.other;
     let p = q.vertex;
-    let v = fuller(labels, n, table, marks, Vertex(o), Vertex(p));
-    let row = row_of(labels, n, table, Vertex(v));
+    let v = fuller(n, table, Vertex(o), Vertex(p));
+    let row = row_of(n, table, Vertex(v));
     if row.size <= HUB {
         return Aim {
             some: true,
@@ -100,18 +91,9 @@ fn aim_among(
 
 // At row 3 the face of the first three corners needs a vertex that links them: without one no cell goes on, and a sole one is a corner of that
 // face and links no other face of the place.
-fn aim_by(
-    labels: &[u16],
-    n: usize,
-    table: &[u16],
-    marks: &[u8],
-    t: [u16; 8],
-    x: usize,
-    q: Linking,
-) -> Aim
-    requires { ⌜ Lent (now labels) n (now table) (now marks) ⌝ }
-    requires { ⌜ ((x ≡ 3) ⊎ (x ≡ 11)) × Only (LinksFirst (now labels) t) q ⌝ }
-    ensures { λ r. ⌜ Aims (now (labels .entry)) t x (r .some) (r .both) (r .o) (r .p) ⌝ }
+fn aim_by(n: usize, table: &[u16], x: usize, q: Linking) -> Aim
+    requires { ⌜ Rowed n (now table) × ((x ≡ 3) ⊎ (x ≡ 11)) ⌝ }
+    ensures { λ r. ⌜ Aims (Covers q) x (r .some) (r .both) (r .o) (r .p) ⌝ }
 {
     if x == 3 {
         let p = q.vertex;
@@ -132,13 +114,13 @@ fn aim_by(
             };
         }
     }
-    aim_among(labels, n, table, marks, t, x, q)
+    aim_among(n, table, x, q)
 }
 
 // At row 16 any vertex may be barred: the apex links the first three corners, and so does another corner.
-fn aim_at(labels: &[u16], n: usize, table: &[u16], marks: &[u8], t: [u16; 8], x: usize) -> Aim
-    requires { ⌜ Lent (now labels) n (now table) (now marks) ⌝ }
-    ensures { λ r. ⌜ Aims (now (labels .entry)) t x (r .some) (r .both) (r .o) (r .p) ⌝ }
+fn aim_at(n: usize, table: &[u16], marks: &[u8], t: [u16; 8], x: usize) -> Aim
+    requires { ⌜ Lent n (now table) (now marks) ⌝ }
+    ensures { λ r. ⌜ Aims (LinksFirst n (now (table .entry)) (now (marks .entry)) t) x (r .some) (r .both) (r .o) (r .p) ⌝ }
 {
     let a = Vertex(t[0]);
     let b = Vertex(t[1]);
@@ -146,7 +128,7 @@ fn aim_at(labels: &[u16], n: usize, table: &[u16], marks: &[u8], t: [u16; 8], x:
         if x != 11 {
             let mut p = 65535;
             if x == 16 {
-                p = fullest(labels, n, table, marks, a, b);
+                p = fullest(n, table, marks, a, b);
             }
             return Aim {
                 some: true,
@@ -156,47 +138,37 @@ fn aim_at(labels: &[u16], n: usize, table: &[u16], marks: &[u8], t: [u16; 8], x:
             };
         }
     }
-    let bar = Bar {
+    let e = Edge {
+        u: a,
+        w: b,
         floor: wide(t[0]) + 1,
-        o: t[1],
-        p: t[1],
-        q: t[1],
+        o: b,
+        p: b,
+        q: b,
     };
-    let q = sole(labels, n, table, marks, bar, a, b, Vertex(t[2]));
-    aim_by(labels, n, table, marks, t, x, q)
+    let q = sole(n, table, marks, e, Vertex(t[2]));
+    aim_by(n, table, x, q)
 }
 
 // ---- by the aim
 
-// The least vertex from lo on that can follow the pair at the entries i and i + 1 of row x, or n; o and p may not link them, nor the place at entry i + 2.
-fn reach(
-    tables: &[u8],
-    labels: &[u16],
-    n: usize,
-    table: &[u16],
-    marks: &[u8],
-    t: [u16; 8],
-    x: usize,
-    i: usize,
-    o: Vertex,
-    p: Vertex,
-    lo: usize,
-) -> usize
+// The edge at the entries i and i + 1 of row x. What may not link it and the next corner is o, p and the place at entry i + 2.
+fn edge_at(tables: &[u8], t: [u16; 8], x: usize, i: usize, o: Vertex, p: Vertex) -> Edge
     requires { ⌜ now tables ≡ levels ⌝ }
-    requires { ⌜ Lent (now labels) n (now table) (now marks) × (lo ≤ n) ⌝ }
     requires { ⌜ (x < 19) × (i < 4) ⌝ }
-    ensures { λ r. ⌜ Least (ClosesPair (now (labels .entry)) t x i (o .0) (p .0)) lo n r ⌝ }
+    ensures { λ r. ⌜ r ≡ edgeAt t x i (o .0) (p .0) ⌝ }
 {
     let u = t[look_of(tables, x, i)];
     let w = t[look_of(tables, x, i + 1)];
     let q = t[look_of(tables, x, i + 2)];
-    let bar = Bar {
+    Edge {
+        u: Vertex(u),
+        w: Vertex(w),
         floor: floor_of(t, x),
-        o: o.0,
-        p: p.0,
-        q: q,
-    };
-    beyond(labels, n, table, marks, bar, Vertex(u), Vertex(w), lo)
+        o,
+        p,
+        q: Vertex(q),
+    }
 }
 
 // Whether the second pair of row x is the first again.
@@ -214,7 +186,6 @@ fn is_twice(tables: &[u8], x: usize) -> bool
 // The least vertex from lo on that can follow by the aim, or n; where both pairs are asked for, one that follows the second alone may come before it.
 fn leap(
     tables: &[u8],
-    labels: &[u16],
     n: usize,
     table: &[u16],
     marks: &[u8],
@@ -224,20 +195,23 @@ fn leap(
     lo: usize,
 ) -> usize
     requires { ⌜ now tables ≡ levels ⌝ }
-    requires { ⌜ Lent (now labels) n (now table) (now marks) × (lo ≤ n) ⌝ }
+    requires { ⌜ Lent n (now table) (now marks) × (lo ≤ n) ⌝ }
     requires { ⌜ x < 19 ⌝ }
-    ensures { λ r. ⌜ Least (Follows (now (labels .entry)) t x (aim .o) (aim .p) (aim .both)) lo n r ⌝ }
+    ensures { λ r. ⌜ Least (Follows n (now (table .entry)) (now (marks .entry)) t x (aim .o) (aim .p) (aim .both)) lo n r ⌝ }
 {
     let o = Vertex(aim.o);
     let p = Vertex(aim.p);
-    let v = reach(tables, labels, n, table, marks, t, x, 0, o, p, lo);
+    let one = edge_at(tables, t, x, 0, o, p);
+    let v = beyond(n, table, marks, one, lo);
     if aim.both {
         if is_twice(tables, x) {
             return v;
         }
-        return reach(tables, labels, n, table, marks, t, x, 3, o, p, v);
+        let two = edge_at(tables, t, x, 3, o, p);
+        return beyond(n, table, marks, two, v);
     }
-    let r = reach(tables, labels, n, table, marks, t, x, 3, o, p, lo);
+    let two = edge_at(tables, t, x, 3, o, p);
+    let r = beyond(n, table, marks, two, lo);
     let b = if v < r { v } else { r };
     lower(o, lo, lower(p, lo, b))
 }
@@ -268,7 +242,6 @@ fn goes_on(
 pub fn hunt(
     tables: &[u8],
     coords: &[i64],
-    labels: &[u16],
     n: usize,
     table: &[u16],
     marks: &[u8],
@@ -278,17 +251,17 @@ pub fn hunt(
     lo: usize,
 ) -> usize
     requires { ⌜ now tables ≡ levels ⌝ }
-    requires { ⌜ Close (now coords) × Lent (now labels) n (now table) (now marks) ⌝ }
+    requires { ⌜ Close (now coords) × Lent n (now table) (now marks) ⌝ }
     requires { ⌜ (x < 19) × (d < 8) ⌝ }
-    ensures { λ r. ⌜ Least (Goes (now (coords .entry)) (now (labels .entry)) (now (marks .entry)) x d t) lo n r ⌝ }
+    ensures { λ r. ⌜ Least (Goes (now (coords .entry)) n (now (table .entry)) (now (marks .entry)) x d t) lo n r ⌝ }
 {
-    let aim = aim_at(labels, n, table, marks, t, x);
+    let aim = aim_at(n, table, marks, t, x);
     if !aim.some {
         return n;
     }
     let mut v = lo;
     while v < n {
-        let r = leap(tables, labels, n, table, marks, t, x, aim, v);
+        let r = leap(tables, n, table, marks, t, x, aim, v);
         if goes_on(tables, coords, marks, n, t, x, d, r) {
             return r;
         }
@@ -312,59 +285,42 @@ fn is_hub(tables: &[u8], x: usize, size: usize) -> bool
 }
 
 // How many neighbours the one with fewer has of the pair at the entries i and i + 1 of row x.
-fn pair_size(
-    tables: &[u8],
-    labels: &[u16],
-    n: usize,
-    table: &[u16],
-    t: [u16; 8],
-    x: usize,
-    i: usize,
-) -> usize
-    requires { ⌜ (now tables ≡ levels) × (Tabled (now labels) n (now table) × ((x < 19) × (i < 5))) ⌝ }
+fn pair_size(tables: &[u8], n: usize, table: &[u16], t: [u16; 8], x: usize, i: usize) -> usize
+    requires { ⌜ (now tables ≡ levels) × (Rowed n (now table) × ((x < 19) × (i < 5))) ⌝ }
 {
     let u = t[look_of(tables, x, i)];
     let w = t[look_of(tables, x, i + 1)];
-    let r = row_of(labels, n, table, Vertex(u));
-    let q = row_of(labels, n, table, Vertex(w));
+    let r = row_of(n, table, Vertex(u));
+    let q = row_of(n, table, Vertex(w));
     let one = fewer(r, q);
     one.size
 }
 
 // Whether looking ahead pays where a row of this size would be gone through: a pair of row x has few neighbours beside it.
-fn is_far(
-    tables: &[u8],
-    labels: &[u16],
-    n: usize,
-    table: &[u16],
-    t: [u16; 8],
-    x: usize,
-    size: usize,
-) -> bool
-    requires { ⌜ (now tables ≡ levels) × (Tabled (now labels) n (now table) × (x < 19)) ⌝ }
+fn is_far(tables: &[u8], n: usize, table: &[u16], t: [u16; 8], x: usize, size: usize) -> bool
+    requires { ⌜ (now tables ≡ levels) × (Rowed n (now table) × (x < 19)) ⌝ }
 {
     let most = size / 4;
-    if pair_size(tables, labels, n, table, t, x, 0) <= most {
+    if pair_size(tables, n, table, t, x, 0) <= most {
         return true;
     }
-    pair_size(tables, labels, n, table, t, x, 3) <= most
+    pair_size(tables, n, table, t, x, 3) <= most
 }
 
 // Whether to look ahead at row x, where a row of this size would be gone through.
 pub fn looks_ahead(
     tables: &[u8],
-    labels: &[u16],
     n: usize,
     table: &[u16],
     t: [u16; 8],
     x: usize,
     size: usize,
 ) -> bool
-    requires { ⌜ (now tables ≡ levels) × (Tabled (now labels) n (now table) × (x < 19)) ⌝ }
+    requires { ⌜ (now tables ≡ levels) × (Rowed n (now table) × (x < 19)) ⌝ }
     ensures { λ r. ⌜ (r ≡ true → eqb (look x 0) (look x 1) ≡ false) ⌝ }
 {
     if is_hub(tables, x, size) {
-        return is_far(tables, labels, n, table, t, x, size);
+        return is_far(tables, n, table, t, x, size);
     }
     false
 }

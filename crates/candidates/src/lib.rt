@@ -1,11 +1,11 @@
 // The next candidate at a place: the first vertex that stands in the rows of two corners joined to it and with which the tuple passes there.
 // A tuple is kept in search order; x is the row of a place in the tables of the levels.
-use ahead::fewer;
 use levels::also_of;
 use levels::lesser_of;
 use levels::third_of;
 use levels::tries;
 use neighbours::Row;
+use reaching::fewer;
 use space::Vertex;
 ghost use mathlib.Core.Path.{_≡_};
 ghost use mathlib.Core.Logic.{_⊎_};

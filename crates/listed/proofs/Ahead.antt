@@ -16,19 +16,22 @@ use Rattle.base.proofs.Lists.{both-left, both-right, all-at, any-at}
 use Rattle.base.proofs.Members.{all-map, all-both}
 use Rattle.space.specs.Mesh.{Mesh, together, holds}
 use Rattle.space.specs.Arrays.{meshOf}
-use Rattle.around.specs.Index.{togetherIn}
 use Rattle.around.proofs.Around.{together-in}
+use Rattle.around.specs.Index.{Labelled, togetherIn}
+use Rattle.neighbours.specs.Reading.{Tabled}
+use Rattle.marks.specs.Marks.{Marked}
 use Rattle.templates.specs.Tables.{Template, pyramid, templateOf, at}
 use Rattle.cells.specs.Cells.{first, second, isFacet, isSplit, hasFaces}
 use Rattle.rule.specs.Rule.{isLeaf}
-use Rattle.ahead.specs.Ahead.{mayLink, Closes, Links}
+use Rattle.reaching.specs.Reaching.{mayLink, Closes, Links}
 use Rattle.levels.specs.Levels.{base, lesser, look}
-use Rattle.aims.specs.Aims.{floorOf, ClosesPair, Follows, LinksFirst, Aims}
+use Rattle.aims.specs.Aims.{floorOf, edge, edgeAt, Follows, LinksFirst, Aims}
 use Rattle.levels.proofs.Right.{at-place}
 use Rattle.levels.proofs.Following.{ways, covered, linked, follows, followsAny, ahead-at, follows-below, floored, Sides, Twice, RowThree, row-three, row-eleven, row-sixteen}
 use Rattle.listed.proofs.Prune.{leaf-faces, leaf-small}
 use Rattle.listed.proofs.Above.{leaf-above}
 use Rattle.listed.proofs.Joined.{leaf-apart}
+use Rattle.listed.proofs.Rows.{facet-faces}
 
 -- ── facets ──
 
@@ -180,155 +183,153 @@ module _ (zs : List ℤ) (ls ps : List ℕ) (k : ℕ) (s : List ℕ) (leaf : isL
       go true f = f refl
       go false f = omega arith
 
-  links-by : {ys : List ℕ} {u w q d : ℕ} (l : Linking ys u w q d) (floor o p : ℕ) → floor ≤ getD s (l .place) 0 → eqb (getD s (l .place) 0) o ≡ false → eqb (getD s (l .place) 0) p ≡ false → Links ls (record { floor = floor; o = o; p = p; q = getD s q 0 }) (getD s u 0) (getD s w 0) (getD s d 0) (getD s (l .place) 0)
-  unfolding mayLink
-  links-by l floor o p f e g = record {
-    may = rw (l .other, l .further, le-leb floor (getD s (l .place) 0) f, e, g, l .aside);
-    near = l .near;
-    facet = l .facet;
-  }
+  module _ {n : ℕ} {table ms : List ℕ} (labelled : Labelled ls n) (tabled : Tabled ls n table) (marked : Marked ls ms) where
+    links-by : {ys : List ℕ} {u w q d : ℕ} (l : Linking ys u w q d) (floor o p : ℕ) → u < d → d < templateOf k .corners → floor ≤ getD s (l .place) 0 → eqb (getD s (l .place) 0) o ≡ false → eqb (getD s (l .place) 0) p ≡ false → Links n table ms (edge (getD s u 0) (getD s w 0) floor o p (getD s q 0)) (getD s (l .place) 0) (getD s d 0)
+    unfolding mayLink
+    links-by {ys} {u} {w} {q} {d} l floor o p i h f e g = record {
+      may = rw (l .other, l .further, le-leb floor (getD s (l .place) 0) f, e, g, l .aside);
+      near = facet-faces labelled tabled marked (getD s u 0) (getD s w 0) (getD s (l .place) 0) (l .near) (l .other);
+      facet = facet-faces labelled tabled marked (getD s u 0) (getD s (l .place) 0) (getD s d 0) (l .facet) (leaf-apart zs ls ps k s leaf d u h (omega arith) (λ r. omega arith));
+    }
 
-  -- where the linking corner is neither o nor p
-  closes-by : {ys : List ℕ} {u w q d : ℕ} (x : ℕ) (l : Linking ys u w q d) (o p : ℕ) → u < d → d < templateOf k .corners → eqb (getD s (l .place) 0) o ≡ false → eqb (getD s (l .place) 0) p ≡ false → Closes ls (record { floor = floorOf s (base k + x); o = o; p = p; q = getD s q 0 }) (getD s u 0) (getD s w 0) (getD s d 0)
-  closes-by {ys} {u} {w} {q} {d} x l o p i h e g = record {
-    via = getD s (l .place) 0;
-    by = record {
-      links = links-by l (floorOf s (base k + x)) o p (above-floor x (l .place) (l .later) (l .inside)) e g;
-      new = leaf-apart zs ls ps k s leaf d u h (omega arith) (λ g. omega arith);
-    };
-  }
+    -- where the linking corner is neither o nor p
+    closes-by : {ys : List ℕ} {u w q d : ℕ} (x : ℕ) (l : Linking ys u w q d) (o p : ℕ) → u < d → d < templateOf k .corners → eqb (getD s (l .place) 0) o ≡ false → eqb (getD s (l .place) 0) p ≡ false → Closes n table ms (edge (getD s u 0) (getD s w 0) (floorOf s (base k + x)) o p (getD s q 0)) (getD s d 0)
+    closes-by {ys} {u} {w} {q} {d} x l o p i h e g = record {
+      via = getD s (l .place) 0;
+      by = links-by l (floorOf s (base k + x)) o p i h (above-floor x (l .place) (l .later) (l .inside)) e g;
+    }
 
-  -- where p is no vertex
-  closes-any : length (meshOf zs ls ps .points) ≤ 512 → (i d : ℕ) → d < templateOf k .corners → followsAny (templateOf k) (base k + d) i d ≡ true → {p : ℕ} → p ≡ 65535 → ClosesPair ls s (base k + d) i p p (getD s d 0)
-  closes-any few i d h e {p} q =
-      let x = base k + d in
-      let l = leaf-links (upTo (t .corners)) (look x i) (look x (i + 1)) (look x (i + 2)) d h e in
-      let b = follows-below t (upTo (t .corners)) (look x i) (look x (i + 1)) (look x (i + 2)) d e in
-      let f = ne-eqb (getD s (l .place) 0) p (λ r. omega (arith, leaf-small zs ls ps k s leaf (l .place) (l .inside))) in
-      closes-by d l p p (b .0 .0) h f f
+    -- where p is no vertex
+    closes-any : length (meshOf zs ls ps .points) ≤ 512 → (i d : ℕ) → d < templateOf k .corners → followsAny (templateOf k) (base k + d) i d ≡ true → {p : ℕ} → p ≡ 65535 → Closes n table ms (edgeAt s (base k + d) i p p) (getD s d 0)
+    closes-any few i d h e {p} q =
+        let x = base k + d in
+        let l = leaf-links (upTo (t .corners)) (look x i) (look x (i + 1)) (look x (i + 2)) d h e in
+        let b = follows-below t (upTo (t .corners)) (look x i) (look x (i + 1)) (look x (i + 2)) d e in
+        let f = ne-eqb (getD s (l .place) 0) p (λ r. omega (arith, leaf-small zs ls ps k s leaf (l .place) (l .inside))) in
+        closes-by d l p p (b .0 .0) h f f
 
-  -- the corner that links the first three links no side face
-  apart-low : {a w q : ℕ} (l : Linking (3 ∷ a ∷ []) 0 w q 3) (r : Linking (2 ∷ 4 ∷ []) 0 1 1 2) → 4 < a → eqb (getD s (l .place) 0) (getD s (r .place) 0) ≡ false
-  apart-low l r f = leaf-apart zs ls ps k s leaf (l .place) (r .place) (l .inside) (r .inside) (clash (one-of (l .among)) (one-of (r .among)) f)
+    -- the corner that links the first three links no side face
+    apart-low : {a w q : ℕ} (l : Linking (3 ∷ a ∷ []) 0 w q 3) (r : Linking (2 ∷ 4 ∷ []) 0 1 1 2) → 4 < a → eqb (getD s (l .place) 0) (getD s (r .place) 0) ≡ false
+    apart-low l r f = leaf-apart zs ls ps k s leaf (l .place) (r .place) (l .inside) (r .inside) (clash (one-of (l .among)) (one-of (r .among)) f)
 
-  module _ {a b : ℕ} (x : ℕ) (h : 3 < templateOf k .corners) (e : Sides (templateOf k) a b) (z : a ≡ b → ⊥) (o p : ℕ) where
-    abbrev Sided : Type 0
-    Sided =
-        ((getD s 3 0 ≡ o) ⊎ (getD s 3 0 ≡ p))
-        ⊎ (Closes ls (record { floor = floorOf s (base k + x); o = o; p = p; q = getD s 1 0 }) (getD s 0 0) (getD s 2 0) (getD s 3 0)
-        ⊎ Closes ls (record { floor = floorOf s (base k + x); o = o; p = p; q = getD s 2 0 }) (getD s 0 0) (getD s 1 0) (getD s 3 0))
+    module _ {a b : ℕ} (x : ℕ) (h : 3 < templateOf k .corners) (e : Sides (templateOf k) a b) (z : a ≡ b → ⊥) (o p : ℕ) where
+      abbrev Sided : Type 0
+      Sided =
+          ((getD s 3 0 ≡ o) ⊎ (getD s 3 0 ≡ p))
+          ⊎ (Closes n table ms (edge (getD s 0 0) (getD s 2 0) (floorOf s (base k + x)) o p (getD s 1 0)) (getD s 3 0)
+          ⊎ Closes n table ms (edge (getD s 0 0) (getD s 1 0) (floorOf s (base k + x)) o p (getD s 2 0)) (getD s 3 0))
 
-    three : {y q : ℕ} → y ≡ q → (y ≡ 3) ⊎ (y ≡ a) → (q ≡ 3) ⊎ (q ≡ b) → y ≡ 3
-    three c (inl i) j = i
-    three c (inr i) (inl j) = c ∙ j
-    three c (inr i) (inr j) = absurd (z (sym i ∙ c ∙ j))
+      three : {y q : ℕ} → y ≡ q → (y ≡ 3) ⊎ (y ≡ a) → (q ≡ 3) ⊎ (q ≡ b) → y ≡ 3
+      three c (inl i) j = i
+      three c (inr i) (inl j) = c ∙ j
+      three c (inr i) (inr j) = absurd (z (sym i ∙ c ∙ j))
 
-    -- a side face whose linking corner is neither o nor p closes; where both linking corners are of them, what they are decides
-    sided : ((l : Linking (3 ∷ a ∷ []) 0 2 1 3) (r : Linking (3 ∷ b ∷ []) 0 1 2 3) → ((getD s (l .place) 0 ≡ o) ⊎ (getD s (l .place) 0 ≡ p)) → ((getD s (r .place) 0 ≡ o) ⊎ (getD s (r .place) 0 ≡ p)) → getD s (l .place) 0 ≡ getD s (r .place) 0) → Sided
-    sided same =
-        let l = leaf-links (3 ∷ a ∷ []) 0 2 1 3 h (e .one) in
-        let r = leaf-links (3 ∷ b ∷ []) 0 1 2 3 h (e .two) in
-        ⊎-elim
+      -- a side face whose linking corner is neither o nor p closes; where both linking corners are of them, what they are decides
+      sided : ((l : Linking (3 ∷ a ∷ []) 0 2 1 3) (r : Linking (3 ∷ b ∷ []) 0 1 2 3) → ((getD s (l .place) 0 ≡ o) ⊎ (getD s (l .place) 0 ≡ p)) → ((getD s (r .place) 0 ≡ o) ⊎ (getD s (r .place) 0 ≡ p)) → getD s (l .place) 0 ≡ getD s (r .place) 0) → Sided
+      sided same =
+          let l = leaf-links (3 ∷ a ∷ []) 0 2 1 3 h (e .one) in
+          let r = leaf-links (3 ∷ b ∷ []) 0 1 2 3 h (e .two) in
+          ⊎-elim
+          (λ f.
+          ⊎-elim
+          (λ g.
+          let i = three (same-place (l .place) (r .place) (l .inside) (r .inside) (same l r f g)) (one-of (l .among)) (one-of (r .among)) in
+          inl (rw i at f))
+          (λ g. inr (inr (closes-by x r o p (omega arith) h (g .0) (g .1))))
+          (of-two (getD s (r .place) 0) o p))
+          (λ f. inr (inl (closes-by x l o p (omega arith) h (f .0) (f .1))))
+          (of-two (getD s (l .place) 0) o p)
+
+      -- whatever it is, where o and p are one: the two linking corners are then one corner, and so place 3
+      sided-one : o ≡ p → Sided
+      sided-one q = sided (λ l r f g. is-one f ∙ sym (is-one g))
+        where
+          is-one : {y : ℕ} → (y ≡ o) ⊎ (y ≡ p) → y ≡ p
+          is-one (inl i) = i ∙ q
+          is-one (inr i) = i
+
+      -- and where o or p is the corner that links the first three
+      sided-two : (m : Linking (2 ∷ 4 ∷ []) 0 1 1 2) → (getD s (m .place) 0 ≡ o) ⊎ (getD s (m .place) 0 ≡ p) → 4 < a → 4 < b → Sided
+      sided-two m c i j =
+          sided (λ l r f g. other-of f g c (eqb-false _ _ (apart-low l m i)) (eqb-false _ _ (apart-low r m j)))
+
+    -- whatever p is: the apex and another corner link the first three of a pyramid, and p is one of them at most
+    closes-twice : (x : ℕ) → 2 < templateOf k .corners → Twice (templateOf k) → (p : ℕ) → Closes n table ms (edge (getD s 1 0) (getD s 0 0) (floorOf s (base k + x)) p p (getD s 0 0)) (getD s 2 0)
+    closes-twice x h e p =
+        let l = leaf-links (4 ∷ []) 1 0 0 2 h (e .apex) in
+        let r = leaf-links (2 ∷ 3 ∷ []) 1 0 0 2 h (e .side) in
+        split (eqb (getD s (l .place) 0) p)
         (λ f.
-        ⊎-elim
-        (λ g.
-        let i = three (same-place (l .place) (r .place) (l .inside) (r .inside) (same l r f g)) (one-of (l .among)) (one-of (r .among)) in
-        inl (rw i at f))
-        (λ g. inr (inr (closes-by x r o p (omega arith) h (g .0) (g .1))))
-        (of-two (getD s (r .place) 0) o p))
-        (λ f. inr (inl (closes-by x l o p (omega arith) h (f .0) (f .1))))
-        (of-two (getD s (l .place) 0) o p)
-
-    -- whatever it is, where o and p are one: the two linking corners are then one corner, and so place 3
-    sided-one : o ≡ p → Sided
-    sided-one q = sided (λ l r f g. is-one f ∙ sym (is-one g))
+        let g = ap (eqb (getD s (r .place) 0)) (sym (eqb-true (getD s (l .place) 0) p f)) ∙ leaf-apart zs ls ps k s leaf (r .place) (l .place) (r .inside) (l .inside) (apart (one-of (r .among)) (only-of (l .among))) in
+        closes-by x r p p (omega arith) h g g)
+        (λ f. closes-by x l p p (omega arith) h f f)
       where
-        is-one : {y : ℕ} → (y ≡ o) ⊎ (y ≡ p) → y ≡ p
-        is-one (inl i) = i ∙ q
-        is-one (inr i) = i
+        only-of : {y a : ℕ} → List·Memᴰ y (a ∷ []) → y ≡ a
+        only-of (List·Memᴰ·head e) = e
 
-    -- and where o or p is the corner that links the first three
-    sided-two : (m : Linking (2 ∷ 4 ∷ []) 0 1 1 2) → (getD s (m .place) 0 ≡ o) ⊎ (getD s (m .place) 0 ≡ p) → 4 < a → 4 < b → Sided
-    sided-two m c i j =
-        sided (λ l r f g. other-of f g c (eqb-false _ _ (apart-low l m i)) (eqb-false _ _ (apart-low r m j)))
+        apart : {y q : ℕ} → (y ≡ 2) ⊎ (y ≡ 3) → q ≡ 4 → (y ≡ q → ⊥)
+        apart (inl i) j e = omega arith
+        apart (inr i) j e = omega arith
 
-  -- whatever p is: the apex and another corner link the first three of a pyramid, and p is one of them at most
-  closes-twice : (x : ℕ) → 2 < templateOf k .corners → Twice (templateOf k) → (p : ℕ) → Closes ls (record { floor = floorOf s (base k + x); o = p; p = p; q = getD s 0 0 }) (getD s 1 0) (getD s 0 0) (getD s 2 0)
-  closes-twice x h e p =
-      let l = leaf-links (4 ∷ []) 1 0 0 2 h (e .apex) in
-      let r = leaf-links (2 ∷ 3 ∷ []) 1 0 0 2 h (e .side) in
-      split (eqb (getD s (l .place) 0) p)
-      (λ f.
-      let g = ap (eqb (getD s (r .place) 0)) (sym (eqb-true (getD s (l .place) 0) p f)) ∙ leaf-apart zs ls ps k s leaf (r .place) (l .place) (r .inside) (l .inside) (apart (one-of (r .among)) (only-of (l .among))) in
-      closes-by x r p p (omega arith) h g g)
-      (λ f. closes-by x l p p (omega arith) h f f)
-    where
-      only-of : {y a : ℕ} → List·Memᴰ y (a ∷ []) → y ≡ a
-      only-of (List·Memᴰ·head e) = e
+    -- the corner that links the first three
+    first-links : (l : Linking (2 ∷ 4 ∷ []) 0 1 1 2) → 2 < templateOf k .corners → 0 < getD lesser (base k + l .place) 0 → LinksFirst n table ms s (getD s (l .place) 0)
+    first-links l h e =
+        links-by l (getD s 0 0 + 1) (getD s 1 0) (getD s 1 0) (omega arith) h (above-first (l .place) (l .later) (l .inside) e) (l .further) (l .further)
 
-      apart : {y q : ℕ} → (y ≡ 2) ⊎ (y ≡ 3) → q ≡ 4 → (y ≡ q → ⊥)
-      apart (inl i) j e = omega arith
-      apart (inr i) j e = omega arith
+    -- whatever is known of the aim, there is some, and the listed tuple's vertex follows by it
+    pub leaf-aims : length (meshOf zs ls ps .points) ≤ 512 → (d : ℕ) → d < templateOf k .corners → eqb (look (base k + d) 0) (look (base k + d) 1) ≡ false → {some both : Bool} {o p : ℕ} → Aims (LinksFirst n table ms s) (base k + d) some both o p → (some ≡ true) × Follows n table ms s (base k + d) o p both (getD s d 0)
+    leaf-aims few d h z {some} {both} {o} {p} q =
+        (split some (λ e. e) (λ e. absurd (not-none (q .none e))), record { each = λ e. let f = q .each e in rw (f .0) (⊎-elim no-vertex (λ g. ⊎-elim at-sixteen sole g) (f .1)); some = λ e. let f = q .either e in ⊎-elim (at-three (f .1)) (at-eleven (f .1)) (f .0) })
+      where
+        low-at : base k + d ≡ 3 → (l : Linking (2 ∷ 4 ∷ []) 0 1 1 2) → LinksFirst n table ms s (getD s (l .place) 0)
+        low-at e l = first-links l (omega (arith, row-three k d h e .place)) (floored k d (l .place) (l .later) (l .inside) (lt-ltb (base k + d) 14 (omega arith)))
 
-  -- the corner that links the first three
-  first-links : (l : Linking (2 ∷ 4 ∷ []) 0 1 1 2) → 0 < getD lesser (base k + l .place) 0 → LinksFirst ls s (getD s (l .place) 0)
-  first-links l e =
-      links-by l (getD s 0 0 + 1) (getD s 1 0) (getD s 1 0) (above-first (l .place) (l .later) (l .inside) e) (l .further) (l .further)
+        lowest : RowThree k d → Linking (2 ∷ 4 ∷ []) 0 1 1 2
+        lowest r = leaf-links (2 ∷ 4 ∷ []) 0 1 1 2 (omega (arith, r .place)) (r .low)
 
-  -- whatever is known of the aim, there is some, and the listed tuple's vertex follows by it
-  pub leaf-aims : length (meshOf zs ls ps .points) ≤ 512 → (d : ℕ) → d < templateOf k .corners → eqb (look (base k + d) 0) (look (base k + d) 1) ≡ false → {some both : Bool} {o p : ℕ} → Aims ls s (base k + d) some both o p → (some ≡ true) × Follows ls s (base k + d) o p both (getD s d 0)
-  leaf-aims few d h z {some} {both} {o} {p} q =
-      (split some (λ e. e) (λ e. absurd (not-none (q .none e))), record { each = λ e. let f = q .each e in rw (f .0) (⊎-elim no-vertex (λ g. ⊎-elim at-sixteen sole g) (f .1)); some = λ e. let f = q .either e in ⊎-elim (at-three (f .1)) (at-eleven (f .1)) (f .0) })
-    where
-      low-at : base k + d ≡ 3 → (l : Linking (2 ∷ 4 ∷ []) 0 1 1 2) → LinksFirst ls s (getD s (l .place) 0)
-      low-at e l = first-links l (floored k d (l .place) (l .later) (l .inside) (lt-ltb (base k + d) 14 (omega arith)))
+        not-none : (base k + d ≡ 3) × ((y : ℕ) → LinksFirst n table ms s y → ⊥) → ⊥
+        not-none n = let l = lowest (row-three k d h (n .0)) in n .1 (getD s (l .place) 0) (low-at (n .0) l)
 
-      lowest : RowThree k d → Linking (2 ∷ 4 ∷ []) 0 1 1 2
-      lowest r = leaf-links (2 ∷ 4 ∷ []) 0 1 1 2 (omega (arith, r .place)) (r .low)
+        no-vertex : p ≡ 65535 → Closes n table ms (edgeAt s (base k + d) 0 p p) (getD s d 0) × Closes n table ms (edgeAt s (base k + d) 3 p p) (getD s d 0)
+        no-vertex e = let f = ahead-at k d h z in (closes-any few 0 d h (f .0) e, closes-any few 3 d h (f .1) e)
 
-      not-none : (base k + d ≡ 3) × ((y : ℕ) → LinksFirst ls s y → ⊥) → ⊥
-      not-none n = let l = lowest (row-three k d h (n .0)) in n .1 (getD s (l .place) 0) (low-at (n .0) l)
+        sole : (base k + d ≡ 3) × ((y : ℕ) → LinksFirst n table ms s y → y ≡ p) → Closes n table ms (edgeAt s (base k + d) 0 p p) (getD s d 0) × Closes n table ms (edgeAt s (base k + d) 3 p p) (getD s d 0)
+        sole n =
+            let r = row-three k d h (n .0) in
+            let l = lowest r in
+            let e = n .1 (getD s (l .place) 0) (low-at (n .0) l) in
+            let i : 3 < templateOf k .corners = omega (arith, r .place) in
+            let one = leaf-links (3 ∷ 6 ∷ []) 0 2 1 3 i (r .sides .one) in
+            let two = leaf-links (3 ∷ 5 ∷ []) 0 1 2 3 i (r .sides .two) in
+            let v = ap (eqb (getD s (one .place) 0)) (sym e) ∙ apart-low one l (omega arith) in
+            let w = ap (eqb (getD s (two .place) 0)) (sym e) ∙ apart-low two l (omega arith) in
+            let f = rw (n .0) at (closes-by d one p p (omega arith) i v v) in
+            let g = rw (n .0) at (closes-by d two p p (omega arith) i w w) in
+            rw (n .0, r .place) (f, g)
 
-      no-vertex : p ≡ 65535 → ClosesPair ls s (base k + d) 0 p p (getD s d 0) × ClosesPair ls s (base k + d) 3 p p (getD s d 0)
-      no-vertex e = let f = ahead-at k d h z in (closes-any few 0 d h (f .0) e, closes-any few 3 d h (f .1) e)
+        at-sixteen : base k + d ≡ 16 → Closes n table ms (edgeAt s (base k + d) 0 p p) (getD s d 0) × Closes n table ms (edgeAt s (base k + d) 3 p p) (getD s d 0)
+        at-sixteen n =
+            let r = row-sixteen k d h n in
+            let f = rw n at (closes-twice d (omega (arith, r .0)) (r .1) p) in
+            rw (n, r .0) (f, f)
 
-      sole : (base k + d ≡ 3) × ((y : ℕ) → LinksFirst ls s y → y ≡ p) → ClosesPair ls s (base k + d) 0 p p (getD s d 0) × ClosesPair ls s (base k + d) 3 p p (getD s d 0)
-      sole n =
-          let r = row-three k d h (n .0) in
-          let l = lowest r in
-          let e = n .1 (getD s (l .place) 0) (low-at (n .0) l) in
-          let i : 3 < templateOf k .corners = omega (arith, r .place) in
-          let one = leaf-links (3 ∷ 6 ∷ []) 0 2 1 3 i (r .sides .one) in
-          let two = leaf-links (3 ∷ 5 ∷ []) 0 1 2 3 i (r .sides .two) in
-          let v = ap (eqb (getD s (one .place) 0)) (sym e) ∙ apart-low one l (omega arith) in
-          let w = ap (eqb (getD s (two .place) 0)) (sym e) ∙ apart-low two l (omega arith) in
-          let f = rw (n .0) at (closes-by d one p p (omega arith) i v v) in
-          let g = rw (n .0) at (closes-by d two p p (omega arith) i w w) in
-          rw (n .0, r .place) (f, g)
+        Known : Type 0
+        Known = (o ≡ p) ⊎ ((base k + d ≡ 3) × ((y : ℕ) → LinksFirst n table ms s y → (y ≡ o) ⊎ (y ≡ p)))
 
-      at-sixteen : base k + d ≡ 16 → ClosesPair ls s (base k + d) 0 p p (getD s d 0) × ClosesPair ls s (base k + d) 3 p p (getD s d 0)
-      at-sixteen n =
-          let r = row-sixteen k d h n in
-          let f = rw n at (closes-twice d (omega (arith, r .0)) (r .1) p) in
-          rw (n, r .0) (f, f)
+        Goal : Type 0
+        Goal = ((getD s d 0 ≡ o) ⊎ (getD s d 0 ≡ p)) ⊎ (Closes n table ms (edgeAt s (base k + d) 0 o p) (getD s d 0) ⊎ Closes n table ms (edgeAt s (base k + d) 3 o p) (getD s d 0))
 
-      Known : Type 0
-      Known = (o ≡ p) ⊎ ((base k + d ≡ 3) × ((y : ℕ) → LinksFirst ls s y → (y ≡ o) ⊎ (y ≡ p)))
+        at-three : Known → base k + d ≡ 3 → Goal
+        at-three c n =
+            let r = row-three k d h n in
+            let i : 3 < templateOf k .corners = omega (arith, r .place) in
+            let l = lowest r in
+            let f = ⊎-elim (λ q. sided-one d i (r .sides) (λ e. omega arith) o p q) (λ m. sided-two d i (r .sides) (λ e. omega arith) o p l (m .1 (getD s (l .place) 0) (low-at n l)) (omega arith) (omega arith)) c in
+            rw (n, r .place) (rw n at f)
 
-      Goal : Type 0
-      Goal = ((getD s d 0 ≡ o) ⊎ (getD s d 0 ≡ p)) ⊎ (ClosesPair ls s (base k + d) 0 o p (getD s d 0) ⊎ ClosesPair ls s (base k + d) 3 o p (getD s d 0))
-
-      at-three : Known → base k + d ≡ 3 → Goal
-      at-three c n =
-          let r = row-three k d h n in
-          let i : 3 < templateOf k .corners = omega (arith, r .place) in
-          let l = lowest r in
-          let f = ⊎-elim (λ q. sided-one d i (r .sides) (λ e. omega arith) o p q) (λ m. sided-two d i (r .sides) (λ e. omega arith) o p l (m .1 (getD s (l .place) 0) (low-at n l)) (omega arith) (omega arith)) c in
-          rw (n, r .place) (rw n at f)
-
-      at-eleven : Known → base k + d ≡ 11 → Goal
-      at-eleven c n =
-          let r = row-eleven k d h n in
-          let i : 3 < templateOf k .corners = omega (arith, r .0) in
-          let f = ⊎-elim (λ q. sided-one d i (r .1) (λ e. omega arith) o p q) (λ m. absurd (omega (arith, m .0))) c in
-          rw (n, r .0) (rw n at f)
+        at-eleven : Known → base k + d ≡ 11 → Goal
+        at-eleven c n =
+            let r = row-eleven k d h n in
+            let i : 3 < templateOf k .corners = omega (arith, r .0) in
+            let f = ⊎-elim (λ q. sided-one d i (r .1) (λ e. omega arith) o p q) (λ m. absurd (omega (arith, m .0))) c in
+            rw (n, r .0) (rw n at f)

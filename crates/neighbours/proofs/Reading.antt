@@ -1,12 +1,13 @@
 -- What stands where in a neighbour table, whatever follows it. Assumes nothing.
-use mathlib.Core.Path.{_≡_, refl, sym, _∙_, ap}
-use mathlib.Core.Bool.{true, false}
+use mathlib.Core.Path.{_≡_, refl, sym, _∙_, ap, subst}
+use mathlib.Core.Bool.{Bool, true, false, cond}
 use mathlib.Core.List.{List, [], _∷_, _++_, map, append-assoc}
 use Prim.Native.Nat.{ℕ, zero, suc, _+_, _-_, _≤_, _<_}
 use native.Mathlib.Nat.{zero-add, add-assoc}
 use native.Mathlib.Omega.{arith}
 use native.Mathlib.Decide.{decLt}
-use lib.Dec.{eqb}
+use borrow.Author.Tests.{lt-ltb, le-ltb}
+use lib.Dec.{eqb, ltb}
 use lib.ListN.{length, getD, take, drop, length-append, length-drop, List·getD-append}
 use lib.Seq.{drop-at, take-at, getD-at, getD-drop, getD-take, length-take-le}
 use Rattle.base.specs.Lists.{spread, from, upTo}
@@ -16,7 +17,7 @@ use Rattle.around.specs.Index.{togetherIn}
 use Rattle.neighbours.specs.declared.Row.{Row}
 use Rattle.neighbours.specs.Table.{rowOf, rowsOf, offsets, tableBy, neighboursIn, tableIn}
 use Rattle.matrix.specs.Matrix.{nextTo}
-use Rattle.neighbours.specs.Reading.{Tabled, RowOf, entriesOf}
+use Rattle.neighbours.specs.Reading.{Tabled, Rowed, RowOf, rowIn, entriesOf, InRow}
 use Rattle.neighbours.proofs.Rows.{offs, offs-all, length-offs, rows-more, rows-up, rows-le, length-table}
 
 module _ (row : ℕ → List ℕ) (n : ℕ) (rest : List ℕ) where
@@ -70,7 +71,7 @@ module _ {ls : List ℕ} {n : ℕ} {xs : List ℕ} (d : Tabled ls n xs) where
   unfolding tableIn
   split = d .is
 
-  pub long : n + 1 + length (rowsOf (neighboursIn ls n) n) ≤ length xs
+  long : n + 1 + length (rowsOf (neighboursIn ls n) n) ≤ length xs
   long =
       omega (arith, ap length split, length-append (tableBy (neighboursIn ls n) n) (d .rest), length-table (neighboursIn ls n) n)
 
@@ -78,7 +79,7 @@ module _ {ls : List ℕ} {n : ℕ} {xs : List ℕ} (d : Tabled ls n xs) where
   starts u h = ap (λ l. getD l u 0) split ∙ offset-at (neighboursIn ls n) n (d .rest) u h
 
   -- the row between two offsets
-  pub row-between : (v s e : ℕ) → v < n → s ≡ getD xs v 0 → e ≡ getD xs (v + 1) 0 → RowOf ls n xs v (record { from = n + 1 + s; size = e - s })
+  row-between : (v s e : ℕ) → v < n → s ≡ getD xs v 0 → e ≡ getD xs (v + 1) 0 → RowOf ls n xs v (record { from = n + 1 + s; size = e - s })
   row-between v s e h p q =
       let row = neighboursIn ls n in
       let a : s ≡ length (rowsOf row v) = p ∙ starts v (omega arith) in
@@ -91,10 +92,38 @@ module _ {ls : List ℕ} {n : ℕ} {xs : List ℕ} (d : Tabled ls n xs) where
         entries = λ l i k. ap (λ j. getD xs (n + 1 + j + i) 0) a ∙ ap (λ t. getD t (n + 1 + length (rowsOf row v) + i) 0) split ∙ entry-at row n (d .rest) v i h (omega arith);
       }
 
-  -- the offsets rise
-  pub offsets-rise : (v : ℕ) → v < n → getD xs v 0 ≤ getD xs (v + 1) 0
-  offsets-rise v h =
-      omega (arith, starts v (omega arith), starts (v + 1) (omega arith), rows-up (neighboursIn ls n) v)
+  row-in : (v : ℕ) → RowOf ls n xs v (rowIn n xs v)
+  unfolding rowIn
+  row-in v = elim (decLt v n) [
+    | yes h ↦ rw (lt-ltb v n h) (row-between v (getD xs v 0) (getD xs (v + 1) 0) h refl refl)
+    | no h ↦
+        rw (le-ltb v n (omega arith)) record {
+          inside = omega arith;
+          empty = λ l. refl;
+          whole = λ l. absurd (h l);
+          entries = λ l. absurd (h l);
+        }
+  ]
+
+  pub row-of-in : (v : ℕ) {r : Row} → r ≡ rowIn n xs v → RowOf ls n xs v r
+  row-of-in v e = subst (RowOf ls n xs v) (sym e) (row-in v)
+
+  pub tabled-rowed : Rowed n xs
+  tabled-rowed =
+      let row = neighboursIn ls n in
+      record {
+        rise = λ v h. omega (arith, starts v (omega arith), starts (v + 1) (omega arith), rows-up row v);
+        within = λ v h. omega (arith, long, starts (v + 1) (omega arith), rows-le row (v + 1) n (omega arith));
+      }
+
+-- a row that the offsets tell lies within the table
+module _ {n : ℕ} {table : List ℕ} (w : Rowed n table) where
+  pub row-inside : (v : ℕ) → rowIn n table v .from + rowIn n table v .size ≤ length table
+  unfolding rowIn
+  row-inside v = elim (decLt v n) [
+    | yes h ↦ rw (lt-ltb v n h) (omega (arith, w .rise v h, w .within v h))
+    | no h ↦ rw (le-ltb v n (omega arith)) (omega arith)
+  ]
 
 -- the row of u: it rises, and every other vertex below n that stands with u in a tetrahedron is in it
 module _ (ls : List ℕ) (n u : ℕ) where
@@ -128,5 +157,7 @@ module _ {ls : List ℕ} {n : ℕ} {table : List ℕ} {u : ℕ} {r : Row} (w : R
     | no l ↦ absurd (let o : ⊥ = omega (arith, b, size, w .empty (omega arith)) in o)
   ]
 
-  pub entries-have : {v : ℕ} → u < n → v < n → eqb u v ≡ false → togetherIn ls (u ∷ v ∷ []) ≡ true → (i : ℕ) × (i < length (entriesOf table r)) × (getD (entriesOf table r) i 0 ≡ v)
-  entries-have {v} l h z t = let f = row-has ls n u v h z t in (f .0, omega (arith, f .1, size, w .whole l), entry l (f .0) (f .1) ∙ f .2)
+  pub entries-have : {v : ℕ} → u < n → v < n → eqb u v ≡ false → togetherIn ls (u ∷ v ∷ []) ≡ true → InRow table r v
+  entries-have {v} l h z t =
+      let f = row-has ls n u v h z t in
+      record { place = f .0; before = omega (arith, f .1, size, w .whole l); is = entry l (f .0) (f .1) ∙ f .2 }

@@ -18,14 +18,14 @@ use Rattle.space.specs.Arrays.{pointAt, meshOf}
 use Rattle.around.specs.Index.{togetherIn}
 use Rattle.templates.specs.Tables.{templateOf}
 use Rattle.neighbours.specs.declared.Row.{Row}
-use Rattle.neighbours.specs.Reading.{RowOf, entriesOf}
-use Rattle.neighbours.proofs.Reading.{entries-rise, entries-have}
+use Rattle.neighbours.specs.Reading.{rowIn, entriesOf, InRow}
+use Rattle.neighbours.proofs.Reading.{tabled-rowed, row-of-in, entries-rise, entries-have}
 use Rattle.portions.specs.Tuples.{Agree, Skips}
 use Rattle.rule.specs.Rule.{isLeaf}
 use Rattle.levels.specs.Levels.{base, joined, also, third}
 use Rattle.levels.specs.Fits.{fits}
 use Rattle.candidates.specs.Met.{Served, Met}
-use Rattle.search.specs.Ready.{Ready, Sought, Begins}
+use Rattle.search.specs.Ready.{Ready, Sought, Drawn, Begins}
 use Rattle.portions.proofs.Search.{Laws}
 use Rattle.rule.proofs.OneKind.{leaf-laws}
 use Rattle.levels.proofs.Right.{joinedBy}
@@ -39,82 +39,89 @@ set-agrees t d l s a v q =
     (λ j b. getD-set-other t d j v 0 (λ e. omega arith) ∙ a j b)
     (getD-set-same t d v 0 l ∙ q)
 
-pub sought-of : {zs : List ℤ} {ls : List ℕ} {n : ℕ} {os es ms table : List ℕ} → Ready zs ls n os es ms table → Sought zs ls n ms table
-sought-of g = record { close = g .close; counted = g .counted; lent = record { labelled = g .indexed .labelled; few = g .few; tabled = g .tabled; marked = g .marked } }
+module _ {zs : List ℤ} {ls : List ℕ} {n : ℕ} {os es ms table : List ℕ} (g : Ready zs ls n os es ms table) where
+  pub sought-of : Sought zs n ms table
+  sought-of = record {
+    close = g .close;
+    counted = g .counted;
+    lent = record { few = g .few; rowed = tabled-rowed (g .tabled); sized = g .marked .size };
+    served = λ v. let w = row-of-in (g .tabled) v refl in record { inside = w .inside; rises = entries-rise w };
+  }
+
+  pub drawn-of : Drawn ls n ms table
+  drawn-of = record { labelled = g .indexed .labelled; marked = g .marked; tabled = g .tabled }
 
 -- ── rows that serve ──
 
-module _ {zs : List ℤ} {ls : List ℕ} {n : ℕ} {ms table : List ℕ} (g : Sought zs ls n ms table) (k : ℕ) (t : List ℕ) (d : ℕ) (h : d < templateOf k .corners) where
+pub points-are : {zs : List ℤ} {n : ℕ} {ms table : List ℕ} → Sought zs n ms table → (ls ps : List ℕ) → length (meshOf zs ls ps .points) ≡ n
+points-are {zs} g ls ps = length-up (pointAt zs) (length zs / 3) ∙ g .counted
+
+module _ {zs : List ℤ} {n : ℕ} {ms table : List ℕ} (g : Sought zs n ms table) (k : ℕ) (t : List ℕ) (d : ℕ) (h : d < templateOf k .corners) where
   -- a row rises and has every vertex with which a listed tuple goes on
   pub record Serves (r : Row) : Type 0 where
     pub served : Served table r
-    pub has : (ps s : List ℕ) → isLeaf (meshOf zs ls ps) (templateOf k) s ≡ true → Agree d t s → (i : ℕ) × (i < length (entriesOf table r)) × (getD (entriesOf table r) i 0 ≡ getD s d 0)
+    pub has : (ls ps s : List ℕ) → Drawn ls n ms table → isLeaf (meshOf zs ls ps) (templateOf k) s ≡ true → Agree d t s → InRow table r (getD s d 0)
 
-  points : (ps : List ℕ) → length (meshOf zs ls ps .points) ≡ n
-  points ps = length-up (pointAt zs) (length zs / 3) ∙ g .counted
-
-  module _ {u : ℕ} {r : Row} (w : RowOf ls n table u r) where
-    module _ (p : ℕ) (q : u ≡ getD t p 0) (joins : (ps s : List ℕ) → isLeaf (meshOf zs ls ps) (templateOf k) s ≡ true → Joined ls s p d) where
-      pub row-serves : Serves r
-      row-serves = record {
-        served = record { inside = w .inside; rises = entries-rise w };
-        has = λ ps s leaf a.
-            let j = joins ps s leaf in
-            let same : u ≡ getD s p 0 = q ∙ a p (j .earlier) in
-            let l : u < n = omega (arith, same, leaf-small zs ls ps k s leaf p (omega (arith, j .earlier)), points ps) in
-            entries-have w l (omega (arith, leaf-small zs ls ps k s leaf d h, points ps)) (ap (λ y. eqb y (getD s d 0)) same ∙ j .other) (ap (λ y. togetherIn ls (y ∷ getD s d 0 ∷ [])) same ∙ j .edge);
-      }
+  -- the row of the entry at p, where a listed tuple's corner there is joined to the one at d
+  row-serves : (p : ℕ) → ((ls ps s : List ℕ) → isLeaf (meshOf zs ls ps) (templateOf k) s ≡ true → Joined ls s p d) → Serves (rowIn n table (getD t p 0))
+  row-serves p joins = record {
+    served = g .served (getD t p 0);
+    has = λ ls ps s w leaf a.
+        let j = joins ls ps s leaf in
+        let u = getD t p 0 in
+        let same : u ≡ getD s p 0 = a p (j .earlier) in
+        let l : u < n = omega (arith, same, leaf-small zs ls ps k s leaf p (omega (arith, j .earlier)), points-are g ls ps) in
+        entries-have (row-of-in (w .tabled) u refl) l (omega (arith, leaf-small zs ls ps k s leaf d h, points-are g ls ps)) (ap (λ y. eqb y (getD s d 0)) same ∙ j .other) (ap (λ y. togetherIn ls (y ∷ getD s d 0 ∷ [])) same ∙ j .edge);
+  }
 
   either-serves : {r q a : Row} → Serves r → Serves q → (a ≡ r) ⊎ (a ≡ q) → Serves a
-  either-serves x y (inl e) = rw e x
-  either-serves x y (inr e) = rw e y
+  either-serves x y (inl e) = subst Serves (sym e) x
+  either-serves x y (inr e) = subst Serves (sym e) y
 
   -- the rows of the joined corners, and those that are chosen among them
   module _ (z : d ≡ 0 → ⊥) where
     module _ {x : ℕ} (e : x ≡ base k + d) where
-      joined-serves : {l : List ℕ} → List·Memᴰ l joinedBy → {i : ℕ} → i ≡ getD l x 0 → {r : Row} → RowOf ls n table (getD t i 0) r → Serves r
-      joined-serves {l} i f w =
-          row-serves w (getD l (base k + d) 0) (ap (λ y. getD t y 0) (f ∙ ap (λ y. getD l y 0) e)) (λ ps s leaf. leaf-joined zs ls ps k s leaf d h z i)
+      joined-serves : {l : List ℕ} → List·Memᴰ l joinedBy → {i : ℕ} → i ≡ getD l x 0 → {r : Row} → r ≡ rowIn n table (getD t i 0) → Serves r
+      joined-serves {l} m f w =
+          let p = getD l (base k + d) 0 in
+          subst Serves (sym (w ∙ ap (λ y. rowIn n table (getD t y 0)) (f ∙ ap (λ y. getD l y 0) e))) (row-serves p (λ ls ps s leaf. leaf-joined zs ls ps k s leaf d h z m))
 
-      pub chosen-serve : {i j l : ℕ} → i ≡ getD joined x 0 → j ≡ getD also x 0 → l ≡ getD third x 0 → {r q s f one two : Row} → RowOf ls n table (getD t i 0) r → RowOf ls n table (getD t j 0) q → RowOf ls n table (getD t l 0) s → (f ≡ r) ⊎ (f ≡ q) → (one ≡ f) ⊎ (one ≡ s) → (two ≡ f) ⊎ (two ≡ s) → Serves one × Serves two
+      pub chosen-serve : {i j l : ℕ} → i ≡ getD joined x 0 → j ≡ getD also x 0 → l ≡ getD third x 0 → {r q s f one two : Row} → r ≡ rowIn n table (getD t i 0) → q ≡ rowIn n table (getD t j 0) → s ≡ rowIn n table (getD t l 0) → (f ≡ r) ⊎ (f ≡ q) → (one ≡ f) ⊎ (one ≡ s) → (two ≡ f) ⊎ (two ≡ s) → Serves one × Serves two
       chosen-serve e1 e2 e3 {s = s} {f = f} w1 w2 w3 a b c =
           let first : Serves f = either-serves (joined-serves (List·Memᴰ·head refl) e1 w1) (joined-serves (List·Memᴰ·tail (List·Memᴰ·head refl)) e2 w2) a in
           let last : Serves s = joined-serves (List·Memᴰ·tail (List·Memᴰ·tail (List·Memᴰ·head refl))) e3 w3 in
           (either-serves first last b, either-serves first last c)
 
   module _ (l : d < length t) {r q : Row} (x : Serves r) (y : Serves q) where
-    pub meet-skips : {lo v : ℕ} → Met (λ v. fits zs ms (base k + d) d (set t d v)) (entriesOf table r) (entriesOf table q) n lo v → (ps : List ℕ) → Skips (isLeaf (meshOf zs ls ps) (templateOf k)) t d n lo v
-    meet-skips {lo} {v} c ps = record {
+    pub meet-skips : {lo v : ℕ} → Met (λ v. fits zs ms (base k + d) d (set t d v)) (entriesOf table r) (entriesOf table q) n lo v → (ls ps : List ℕ) → Drawn ls n ms table → Skips (isLeaf (meshOf zs ls ps) (templateOf k)) t d n lo v
+    meet-skips {lo} {v} c ls ps w = record {
       low = c .low;
       miss = λ s e a f b.
-          let i = x .has ps s e a in
-          let j = y .has ps s e a in
-          let o = c .least (i .0) (j .0) (i .1) (j .1) (i .2 ∙ sym (j .2)) (omega (arith, f, i .2)) (passes zs ls ps k s e d h (set t d (getD (entriesOf table r) (i .0) 0)) (set-agrees t d l s a (getD (entriesOf table r) (i .0) 0) (i .2)) (g .lent .marked)) in
-          omega (arith, o, i .2, b);
+          let i = x .has ls ps s w e a in
+          let j = y .has ls ps s w e a in
+          let o = c .least (i .place) (j .place) (i .before) (j .before) (i .is ∙ sym (j .is)) (omega (arith, f, i .is)) (passes zs ls ps k s e d h (set t d (getD (entriesOf table r) (i .place) 0)) (set-agrees t d l s a (getD (entriesOf table r) (i .place) 0) (i .is)) (w .marked)) in
+          omega (arith, o, i .is, b);
     }
 
 -- ── where a search begins ──
 
-module _ {zs : List ℤ} {ls : List ℕ} {n : ℕ} {ms table : List ℕ} (g : Sought zs ls n ms table) (k : ℕ) (mark : List ℕ) where
-  pub points-are : (ps : List ℕ) → length (meshOf zs ls ps .points) ≡ n
-  points-are ps = length-up (pointAt zs) (length zs / 3) ∙ g .counted
-
-  pub begins-here : {d v w : ℕ} → d < templateOf k .corners → v ≡ getD mark d 0 → (w ≡ v → ⊥) → ((ps : List ℕ) → Skips (isLeaf (meshOf zs ls ps) (templateOf k)) mark d n v w) → Begins zs ls k mark d
+module _ {zs : List ℤ} {n : ℕ} {ms table : List ℕ} (g : Sought zs n ms table) (k : ℕ) (mark : List ℕ) where
+  pub begins-here : {d v w : ℕ} → d < templateOf k .corners → v ≡ getD mark d 0 → (w ≡ v → ⊥) → ((ls ps : List ℕ) → Drawn ls n ms table → Skips (isLeaf (meshOf zs ls ps) (templateOf k)) mark d n v w) → Begins zs n ms table k mark d
   begins-here {d} {v} {w} h q z c = record {
     within = h;
-    last = λ ps. inr (λ s p a.
+    last = λ ls ps drawn. inr (λ s p a.
         let e : getD s d 0 ≡ v = sym (a d (omega arith)) ∙ sym q in
         let small = leaf-small zs ls ps k s p d h in
-        c ps .miss s p (λ j b. a j (omega arith)) (omega arith) (elim (decLt w n) [
-          | yes f ↦ let y = c ps .low f in elim (decLt v w) [ yes b ↦ omega arith | no b ↦ absurd (z (omega arith)) ]
-          | no f ↦ omega (arith, points-are ps)
+        c ls ps drawn .miss s p (λ j b. a j (omega arith)) (omega arith) (elim (decLt w n) [
+          | yes f ↦ let y = c ls ps drawn .low f in elim (decLt v w) [ yes b ↦ omega arith | no b ↦ absurd (z (omega arith)) ]
+          | no f ↦ omega (arith, points-are g ls ps)
         ]));
   }
 
-  pub begins-last : {d : ℕ} → d + 1 ≡ templateOf k .corners → Begins zs ls k mark d
-  begins-last {d} e = record { within = omega arith; last = λ ps. inl e }
+  pub begins-last : {d : ℕ} → d + 1 ≡ templateOf k .corners → Begins zs n ms table k mark d
+  begins-last {d} e = record { within = omega arith; last = λ ls ps w. inl e }
 
   -- what the search is told of the test of a whole tuple
-  pub laws-of : (ps : List ℕ) → Laws (templateOf k .corners) n (isLeaf (meshOf zs ls ps) (templateOf k))
-  laws-of ps =
-      subst (λ i. Laws (templateOf k .corners) i (isLeaf (meshOf zs ls ps) (templateOf k))) (points-are ps) (leaf-laws (meshOf zs ls ps) (templateOf k) (flat-at k))
+  pub laws-of : (ls ps : List ℕ) → Laws (templateOf k .corners) n (isLeaf (meshOf zs ls ps) (templateOf k))
+  laws-of ls ps =
+      subst (λ i. Laws (templateOf k .corners) i (isLeaf (meshOf zs ls ps) (templateOf k))) (points-are g ls ps) (leaf-laws (meshOf zs ls ps) (templateOf k) (flat-at k))

@@ -8,16 +8,17 @@ use mathlib.Core.List.{List, []}
 use lib.IntN.{ℤ}
 use lib.ListN.{length}
 use Rattle.space.specs.Arrays.{meshOf, Close}
-use Rattle.around.specs.Index.{Indexed}
+use Rattle.around.specs.Index.{Labelled, Indexed}
 use Rattle.space.specs.Mesh.{Mesh}
 use Rattle.templates.specs.Tables.{Template, templateOf}
 use Rattle.marks.specs.Marks.{Marked}
-use Rattle.neighbours.specs.Reading.{Tabled}
+use Rattle.neighbours.specs.Reading.{Tabled, rowIn}
 use Rattle.portions.specs.Tuples.{Agree}
 use Rattle.rule.specs.Rule.{isLeaf, cellAt}
 use Rattle.filling.specs.Found.{Found as Numbered}
 use Rattle.search.specs.declared.Found.{Found}
-use Rattle.ahead.specs.Ahead.{Lent}
+use Rattle.reaching.specs.Reaching.{Lent}
+use Rattle.candidates.specs.Met.{Served}
 
 -- the mesh of n vertices in working arrays, its index, the marks of its facets and its neighbour table
 pub record Ready (zs : List ℤ) (ls : List ℕ) (n : ℕ) (os es ms table : List ℕ) : Type 0 where
@@ -28,16 +29,23 @@ pub record Ready (zs : List ℤ) (ls : List ℕ) (n : ℕ) (os es ms table : Lis
   pub marked : Marked ls ms
   pub tabled : Tabled ls n table
 
--- of that, what looking for the vertex at a place asks for
-pub record Sought (zs : List ℤ) (ls : List ℕ) (n : ℕ) (ms table : List ℕ) : Type 0 where
+-- of that, what looking for the vertex at a place reads: it asks for rows that can be read, and rise
+pub record Sought (zs : List ℤ) (n : ℕ) (ms table : List ℕ) : Type 0 where
   pub close : Close zs
   pub counted : length zs / 3 ≡ n
-  pub lent : Lent ls n table ms
+  pub lent : Lent n table ms
+  pub served : (v : ℕ) → Served table (rowIn n table v)
+
+-- and what it promises for: labels of n vertices that the marks and the table are of
+pub record Drawn (ls : List ℕ) (n : ℕ) (ms table : List ℕ) : Type 0 where
+  pub labelled : Labelled ls n
+  pub marked : Marked ls ms
+  pub tabled : Tabled ls n table
 
 -- the search for tuples after the mark begins at place r: the last, or one at which no listed tuple goes on with the mark's entry
-pub record Begins (zs : List ℤ) (ls : List ℕ) (k : ℕ) (mark : List ℕ) (r : ℕ) : Type 0 where
+pub record Begins (zs : List ℤ) (n : ℕ) (ms table : List ℕ) (k : ℕ) (mark : List ℕ) (r : ℕ) : Type 0 where
   pub within : r < templateOf k .corners
-  pub last : (ps : List ℕ) → (r + 1 ≡ templateOf k .corners) ⊎ ((s : List ℕ) → isLeaf (meshOf zs ls ps) (templateOf k) s ≡ true → Agree (r + 1) mark s → ⊥)
+  pub last : (ls ps : List ℕ) → Drawn ls n ms table → (r + 1 ≡ templateOf k .corners) ⊎ ((s : List ℕ) → isLeaf (meshOf zs ls ps) (templateOf k) s ≡ true → Agree (r + 1) mark s → ⊥)
 
 -- what is said of the tuple s: whether it is listed, and then its tetrahedra
 pub record Tested (m : Mesh) (t : Template) (s : List ℕ) (r : Found) : Type 0 where

@@ -1,6 +1,5 @@
 // The search for the next cell of a kind: the least tuple after a tuple that is a cell in least form, by an odometer over one tuple with a level.
 // A tuple is kept in search order; x is the row of a place in the tables of the levels.
-use ahead::fewer;
 use aims::hunt;
 use aims::looks_ahead;
 use candidates::meet_rows;
@@ -13,6 +12,7 @@ use levels::joined_of;
 use levels::third_of;
 use neighbours::row_of;
 use order::corners_of;
+use reaching::fewer;
 use space::Vertex;
 use verdict::is_leaf;
 use verdict::no_tets;
@@ -28,7 +28,7 @@ ghost use Rattle.around.specs.Arrays.{Arrays};
 ghost use Rattle.portions.specs.Tuples.{Skips, LeastAfter};
 ghost use Rattle.rule.specs.Rule.{isLeaf, cellAt};
 ghost use Rattle.levels.specs.Levels.{base, levels};
-ghost use Rattle.search.specs.Ready.{Ready, Sought, Begins, Tested};
+ghost use Rattle.search.specs.Ready.{Ready, Sought, Drawn, Begins, Tested};
 
 // The tuple that was found, in search order, and the tetrahedra of its cell.
 pub struct Found {
@@ -57,7 +57,6 @@ fn base_of(kind: u16) -> usize
 fn seek(
     tables: &[u8],
     coords: &[i64],
-    labels: &[u16],
     n: usize,
     marks: &[u8],
     table: &[u16],
@@ -67,22 +66,22 @@ fn seek(
     lo: usize,
 ) -> usize
     requires { ⌜ now tables ≡ levels ⌝ }
-    requires { ⌜ Sought (now coords) (now labels) n (now marks) (now table) ⌝ }
+    requires { ⌜ Sought (now coords) n (now marks) (now table) ⌝ }
     requires { ⌜ d < templateOf kind .corners ⌝ }
-    ensures { λ r. ⌜ ((ps : List ℕ) → Skips (isLeaf (meshOf (now (coords .entry)) (now (labels .entry)) ps) (templateOf kind)) t d n lo r) ⌝ }
+    ensures { λ r. ⌜ ((ls ps : List ℕ) → Drawn ls n (now (marks .entry)) (now (table .entry)) → Skips (isLeaf (meshOf (now (coords .entry)) ls ps) (templateOf kind)) t d n lo r) ⌝ }
 {
     if d == 0 {
         return lo;
     }
     let x = base_of(kind) + d;
     let from = rise(tables, t, x, lo);
-    let r = row_of(labels, n, table, Vertex(t[joined_of(tables, x)]));
-    let q = row_of(labels, n, table, Vertex(t[also_of(tables, x)]));
-    let s = row_of(labels, n, table, Vertex(t[third_of(tables, x)]));
+    let r = row_of(n, table, Vertex(t[joined_of(tables, x)]));
+    let q = row_of(n, table, Vertex(t[also_of(tables, x)]));
+    let s = row_of(n, table, Vertex(t[third_of(tables, x)]));
     let f = nearer(tables, x, r, q);
     let one = fewer(f, s);
-    if looks_ahead(tables, labels, n, table, t, x, one.size) {
-        return hunt(tables, coords, labels, n, table, marks, t, x, d, from);
+    if looks_ahead(tables, n, table, t, x, one.size) {
+        return hunt(tables, coords, n, table, marks, t, x, d, from);
     }
     let two = partner(f, s);
     meet_rows(tables, coords, marks, n, table, one, two, t, x, d, from)
@@ -95,7 +94,6 @@ fn seek(
 fn start(
     tables: &[u8],
     coords: &[i64],
-    labels: &[u16],
     n: usize,
     marks: &[u8],
     table: &[u16],
@@ -104,8 +102,8 @@ fn start(
     told: bool,
 ) -> usize
     requires { ⌜ now tables ≡ levels ⌝ }
-    requires { ⌜ Sought (now coords) (now labels) n (now marks) (now table) ⌝ }
-    ensures { λ r. ⌜ Begins (now (coords .entry)) (now (labels .entry)) kind mark r ⌝ }
+    requires { ⌜ Sought (now coords) n (now marks) (now table) ⌝ }
+    ensures { λ r. ⌜ Begins (now (coords .entry)) n (now (marks .entry)) (now (table .entry)) kind mark r ⌝ }
 {
     let k = corners_of(kind);
     if told {
@@ -114,7 +112,7 @@ fn start(
     let mut d = 0;
     while d + 1 < k {
         let v = wide(mark[d]);
-        if seek(tables, coords, labels, n, marks, table, kind, mark, d, v) != v {
+        if seek(tables, coords, n, marks, table, kind, mark, d, v) != v {
             return d;
         }
         d += 1;
@@ -178,10 +176,10 @@ pub fn next(
 {
     let k = corners_of(kind);
     let mut t = mark;
-    let mut d = start(tables, coords, labels, n, marks, table, kind, mark, told);
+    let mut d = start(tables, coords, n, marks, table, kind, mark, told);
     let mut lo = wide(t[d]) + 1;
     loop {
-        let c = seek(tables, coords, labels, n, marks, table, kind, t, d, lo);
+        let c = seek(tables, coords, n, marks, table, kind, t, d, lo);
         if c < n {
             t[d] = c as u16;
             if d + 1 < k {

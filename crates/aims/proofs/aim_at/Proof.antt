@@ -4,6 +4,7 @@ use mathlib.Core.Logic.{_⊎_, inl, inr, ⊎-elim}
 use mathlib.Core.Bool.{true≢false}
 use native.Mathlib.Omega.{arith}
 use borrow.Author.Needs.{needs}
+use Rattle.aims.proofs.Hunting.{aims-of}
 use Rattle.aims.proofs.aim_at.Statement.{statement}
 use Rattle.aims.proofs.aim_at.Tie as tie
 
@@ -28,32 +29,23 @@ array-read-wide-3 c = search needs
 wide-requires : tie.Need-wide-requires
 wide-requires c κs = search needs
 
-add-t24 : tie.Need-add-t24
-add-t24 c = search needs
+add-t23 : tie.Need-add-t23
+add-t23 c = search needs
 
-array-read-t27 : tie.Need-array-read-t27
-array-read-t27 c = search needs
-
-array-read-t30 : tie.Need-array-read-t30
-array-read-t30 c = search needs
-
-array-read-t33 : tie.Need-array-read-t33
-array-read-t33 c = search needs
-
-array-read-t15 : tie.Need-array-read-t15
-array-read-t15 c = search needs
+array-read-t14 : tie.Need-array-read-t14
+array-read-t14 c = search needs
 
 sole-requires : tie.Need-sole-requires
 sole-requires c κs = search needs
 
 aim-by-requires : tie.Need-aim-by-requires
 aim-by-requires c κs =
-    let z = c .before .before .before .before .before .before in
+    let z = c .before .before .before .before .before in
     let which : (z .args .x ≡ 3) ⊎ (z .args .x ≡ 11) = ⊎-elim (λ w. inr (omega arith)) (λ w. inl (omega arith)) (c .before .before .if1 .came) in
-    (z .pre, (which, rw (c .before .wide .ensures .0) at (c .sole .ensures)))
+    (z .pre .rowed, which)
 
 returns-3 : tie.Need-returns-3
-returns-3 c = search needs
+returns-3 c = aims-of (rw (c .before .before .wide .ensures .0) at (c .before .sole .ensures)) (c .aim-by .ensures)
 
 pub aim-at-spec : {M : Type 1} → statement M
 aim-at-spec =
@@ -66,11 +58,8 @@ aim-at-spec =
     returns-2
     array-read-wide-3
     wide-requires
-    add-t24
-    array-read-t27
-    array-read-t30
-    array-read-t33
-    array-read-t15
+    add-t23
+    array-read-t14
     sole-requires
     aim-by-requires
     returns-3)

@@ -10,17 +10,15 @@ use Rattle.aims.proofs.aim_by.Tie as tie
 
 returns : tie.Need-returns
 returns c =
-    let z = c .before .before .before .before .before .before in
     let f = not-true _ (c .if2 .taken) in
-    record { none = λ e. (omega arith, λ y l. true≢false (sym (z .pre .1 .1 y l .some) ∙ f)); each = λ e. (refl, inr (inr (omega arith, λ y l. absurd (true≢false (sym (z .pre .1 .1 y l .some) ∙ f))))); either = λ e. absurd (true≢false e) }
+    record { none = λ e. (omega arith, λ y l. true≢false (sym (l .some) ∙ f)); each = λ e. (refl, inr (inr (omega arith, λ y l. absurd (true≢false (sym (l .some) ∙ f))))); either = λ e. absurd (true≢false e) }
 
 returns-2 : tie.Need-returns-2
 returns-2 c =
-    let z = c .before .before .before .before .before .before .before in
-    record { none = λ e. absurd (true≢false e); each = λ e. (refl, inr (inr (omega arith, λ y l. z .pre .1 .1 y l .one (c .if3 .taken)))); either = λ e. absurd (true≢false e) }
+    record { none = λ e. absurd (true≢false e); each = λ e. (refl, inr (inr (omega arith, λ y l. l .one (c .if3 .taken)))); either = λ e. absurd (true≢false e) }
 
 aim-among-requires : tie.Need-aim-among-requires
-aim-among-requires c κs = c .before .before .before .before .pre
+aim-among-requires c κs = c .before .before .pre
 
 returns-3 : tie.Need-returns-3
 returns-3 c = c .aim-among .ensures

@@ -7,13 +7,13 @@ use Rattle.aims.proofs.hunt.Statement.{statement}
 use Rattle.aims.proofs.hunt.Tie as tie
 
 abbrev Inv-loop : tie.InvT-loop
-Inv-loop tables coords labels n table marks t x d lo aim v₀ v = Passed (Goes coords labels marks x d t) n lo v
+Inv-loop tables coords n table marks t x d lo aim v₀ v = Passed (Goes coords n table marks x d t) n lo v
 
 abbrev μ-loop : tie.MeasureT-loop
-μ-loop tables coords labels n table marks t x d lo aim v₀ v = n - v
+μ-loop tables coords n table marks t x d lo aim v₀ v = n - v
 
 aim-at-requires : tie.Need-aim-at-requires Inv-loop μ-loop
-aim-at-requires c κs = let z = c .before .before .before .before in z .pre .1 .0 .1
+aim-at-requires c κs = let z = c .before .before .before in z .pre .1 .0 .1
 
 returns : tie.Need-returns Inv-loop μ-loop
 returns c = hunt-none (c .before .before .aim-at .ensures) (c .if1 .taken)
@@ -23,13 +23,13 @@ loop-holds c = passed-none
 
 leap-requires : tie.Need-leap-requires Inv-loop μ-loop
 leap-requires c κs =
-    let z = c .before .before .before .before .before .before .before .before .before in
+    let z = c .before .before .before .before .before .before .before .before in
     (z .pre .0, ((z .pre .1 .0 .1, omega arith), z .pre .1 .1 .0))
 
 goes-on-requires : tie.Need-goes-on-requires Inv-loop μ-loop
 goes-on-requires c κs =
-    let z = c .before .before .before .before .before .before .before .before .before .before in
-    (z .pre .0, ((z .pre .1 .0 .0, (z .pre .1 .0 .1 .marked .size, z .pre .1 .0 .1 .few)), z .pre .1 .1))
+    let z = c .before .before .before .before .before .before .before .before .before in
+    (z .pre .0, ((z .pre .1 .0 .0, (z .pre .1 .0 .1 .sized, z .pre .1 .0 .1 .few)), z .pre .1 .1))
 
 returns-2 : tie.Need-returns-2 Inv-loop μ-loop
 returns-2 c =
@@ -39,7 +39,7 @@ returns-2 c =
 
 add-v : tie.Need-add-v Inv-loop μ-loop
 add-v c =
-    let z = c .before .before .before .before .before .before .before .before .before .before .before .before in
+    let z = c .before .before .before .before .before .before .before .before .before .before .before in
     omega (arith, c .before .before .leap .ensures .most, z .pre .1 .0 .1 .few)
 
 loop-less : tie.Need-loop-less Inv-loop μ-loop

@@ -6,25 +6,39 @@ use borrow.Author.Needs.{needs}
 use Rattle.aims.proofs.leap.Statement.{statement}
 use Rattle.aims.proofs.leap.Tie as tie
 
-reach-requires : tie.Need-reach-requires
-reach-requires c κs = search needs
+edge-at-requires : tie.Need-edge-at-requires
+edge-at-requires c κs = search needs
+
+beyond-requires : tie.Need-beyond-requires
+beyond-requires c κs = search needs
 
 is-twice-requires : tie.Need-is-twice-requires
 is-twice-requires c κs = search needs
 
 returns : tie.Need-returns
-returns c = leap-first (c .before .before .before .reach .ensures) (c .before .before .if1 .taken)
+returns c =
+    let b = c .before .before .before in
+    leap-first (b .before .edge-at .ensures) (b .beyond .ensures) (c .before .before .if1 .taken)
 
-reach-requires-2 : tie.Need-reach-requires-2
-reach-requires-2 c κs =
-    let z = c .before .before .before .before .before .before .before .before in
-    (z .pre .0, ((z .pre .1 .0 .0, c .before .before .before .reach .ensures .most), (z .pre .1 .1, omega arith)))
+edge-at-requires-2 : tie.Need-edge-at-requires-2
+edge-at-requires-2 c κs = search needs
+
+beyond-requires-2 : tie.Need-beyond-requires-2
+beyond-requires-2 c κs =
+    let b = c .before .before .before .before in
+    let z = b .before .before .before .before .before in
+    (z .pre .1 .0 .0, b .beyond .ensures .most)
 
 returns-2 : tie.Need-returns-2
-returns-2 c = leap-each (c .before .before .before .before .reach .ensures) (c .before .before .before .if1 .taken) (c .reach2 .ensures)
+returns-2 c =
+    let b = c .before .before .before .before .before in
+    leap-each (b .before .edge-at .ensures) (b .beyond .ensures) (c .before .edge-at2 .ensures) (c .before .before .before .before .if1 .taken) (c .beyond2 .ensures)
 
-reach-requires-3 : tie.Need-reach-requires-3
-reach-requires-3 c κs = search needs
+edge-at-requires-3 : tie.Need-edge-at-requires-3
+edge-at-requires-3 c κs = search needs
+
+beyond-requires-3 : tie.Need-beyond-requires-3
+beyond-requires-3 c κs = search needs
 
 lower-requires : tie.Need-lower-requires
 lower-requires c κs = search needs
@@ -35,9 +49,11 @@ lower-requires-2 c κs = search needs
 returns-3 : tie.Need-returns-3
 returns-3 c =
     let j = c .before .before .if3 in
-    let v = c .before .before .before .before .before .reach .ensures in
-    let r = c .before .before .before .reach3 .ensures in
-    leap-some v (c .before .before .before .before .if1 .left) r
+    let s = c .before .before .before in
+    let b = s .before .before .before in
+    let v = b .beyond .ensures in
+    let r = s .beyond3 .ensures in
+    leap-some (b .before .edge-at .ensures) v (s .before .edge-at3 .ensures) (s .before .before .if1 .left) r
     (⊎-elim (λ z. omega (arith, z .1)) (λ z. omega (arith, z .1)) (j .came))
     (⊎-elim (λ z. omega (arith, z .1)) (λ z. omega (arith, z .1)) (j .came))
     (λ h. ⊎-elim (λ z. omega (arith, z .1, v .low (omega (arith, z .1)))) (λ z. omega (arith, z .1, r .low (omega (arith, z .1)))) (j .came))
@@ -47,12 +63,15 @@ pub leap-spec : {M : Type 1} → statement M
 leap-spec =
     tie.close
     (tie.spec
-    reach-requires
+    edge-at-requires
+    beyond-requires
     is-twice-requires
     returns
-    reach-requires-2
+    edge-at-requires-2
+    beyond-requires-2
     returns-2
-    reach-requires-3
+    edge-at-requires-3
+    beyond-requires-3
     lower-requires
     lower-requires-2
     returns-3)

@@ -1,6 +1,8 @@
-use borrow.Author.Needs.{needs}
+-- `neighbours::row_of` meets its contract. Assumes nothing.
 use native.Mathlib.Omega.{arith}
-use Rattle.neighbours.proofs.Reading.{long, offsets-rise, row-between}
+use borrow.Author.Needs.{needs}
+use borrow.Author.Tests.{lt-ltb, le-ltb}
+use Rattle.neighbours.specs.Reading.{rowIn}
 use Rattle.neighbours.proofs.row_of.Statement.{statement}
 use Rattle.neighbours.proofs.row_of.Tie as tie
 
@@ -11,7 +13,7 @@ mul-wide : tie.Need-mul-wide
 mul-wide c = search needs
 
 shared-slice-read-wide : tie.Need-shared-slice-read-wide
-shared-slice-read-wide c = omega (arith, long (c .before .before .before .before .before .pre))
+shared-slice-read-wide c = let z = c .before .before .before .before in omega (arith, z .pre .within (z .args .v .0) (omega arith))
 
 wide-requires : tie.Need-wide-requires
 wide-requires c κs = search needs
@@ -23,25 +25,31 @@ mul-wide-2 : tie.Need-mul-wide-2
 mul-wide-2 c = search needs
 
 shared-slice-read-wide-2 : tie.Need-shared-slice-read-wide-2
-shared-slice-read-wide-2 c = omega (arith, long (c .before .before .before .before .before .before .before .pre))
+shared-slice-read-wide-2 c = let z = c .before .before .before .before .before .before in omega (arith, z .pre .within (z .args .v .0) (omega arith))
 
 wide-requires-2 : tie.Need-wide-requires-2
 wide-requires-2 c κs = search needs
 
-add-t10 : tie.Need-add-t10
-add-t10 c = omega (arith, long (c .before .before .before .before .before .before .before .before .pre))
+add-t9 : tie.Need-add-t9
+add-t9 c = let z = c .before .before .before .before .before .before .before in omega (arith, z .pre .within (z .args .v .0) (omega arith))
 
-add-t13 : tie.Need-add-t13
-add-t13 c = omega (arith, long (c .before .before .before .before .before .before .before .before .pre))
+add-t12 : tie.Need-add-t12
+add-t12 c =
+    let z = c .before .before .before .before .before .before .before in
+    omega (arith, z .pre .rise (z .args .v .0) (omega arith), z .pre .within (z .args .v .0) (omega arith))
 
-sub-t15 : tie.Need-sub-t15
-sub-t15 c = let z = c .before .before .before .before .before .before .before .before in omega (arith, offsets-rise (z .pre) (z .args .v .0) (omega arith))
+sub-t14 : tie.Need-sub-t14
+sub-t14 c = let z = c .before .before .before .before .before .before .before in omega (arith, z .pre .rise (z .args .v .0) (omega arith))
 
 returns : tie.Need-returns
-returns c = let z = c .before .before .before .before .before .before .before .before in row-between (z .pre) (z .args .v .0) (c .before .before .wide .result) (c .wide2 .result) (omega arith) (c .before .before .wide .ensures .0) (c .wide2 .ensures .0)
+unfolding rowIn
+returns c =
+    let z = c .before .before .before .before .before .before .before in
+    rw (lt-ltb (z .args .v .0) (z .args .n) (omega arith), c .before .before .wide .ensures .0, c .wide2 .ensures .0)
 
 returns-2 : tie.Need-returns-2
-returns-2 c = search needs
+unfolding rowIn
+returns-2 c = let z = c .before .before .before in rw (le-ltb (z .args .v .0) (z .args .n) (omega arith))
 
 pub row-of-spec : {M : Type 1} → statement M
 row-of-spec =
@@ -55,8 +63,8 @@ row-of-spec =
     mul-wide-2
     shared-slice-read-wide-2
     wide-requires-2
-    add-t10
-    add-t13
-    sub-t15
+    add-t9
+    add-t12
+    sub-t14
     returns
     returns-2)

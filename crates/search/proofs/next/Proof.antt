@@ -9,7 +9,7 @@ use Rattle.templates.specs.Tables.{templateOf}
 use Rattle.portions.proofs.Search.{Open, begin, descend, reject, result, carry, nothing}
 use Rattle.portions.proofs.Turns.{left, less-descend, less-reject, less-carry}
 use Rattle.rule.specs.Rule.{isLeaf}
-use Rattle.search.proofs.Scanning.{sought-of, laws-of}
+use Rattle.search.proofs.Scanning.{sought-of, drawn-of, laws-of}
 use Rattle.search.proofs.next.Statement.{statement}
 use Rattle.search.proofs.next.Tie as tie
 
@@ -40,10 +40,10 @@ add-lo c = omega arith
 loop-holds : tie.Need-loop-holds Inv-loop μ-loop
 loop-holds c =
     let z = c .before .before .before .before .before .before .before .before .before .before in
-    let w = laws-of (sought-of (z .pre .1 .0)) (z .args .kind) (z .args .mark) (z .args .parts .now) in
+    let w = laws-of (sought-of (z .pre .1 .0)) (z .args .kind) (z .args .mark) (z .args .labels .now) (z .args .parts .now) in
     let g = z .good .1 .1 .1 .1 .1 .1 .1 .1 .1 .1 .0 in
     let l : length (z .args .mark) ≡ 8 = search needs in
-    rw (c .wide .ensures .0) (begin w (c .before .start .ensures .within) (omega (arith, c .before .before .corners-of .ensures)) (c .before .start .ensures .last (z .args .parts .now)))
+    rw (c .wide .ensures .0) (begin w (c .before .start .ensures .within) (omega (arith, c .before .before .corners-of .ensures)) (c .before .start .ensures .last (z .args .labels .now) (z .args .parts .now) (drawn-of (z .pre .1 .0))))
 
 seek-requires : tie.Need-seek-requires Inv-loop μ-loop
 seek-requires c κs = let z = c .before .before .before .before .before .before .before .before .before .before .before in (z .pre .0, (sought-of (z .pre .1 .0), c .loop .inv .inside))
@@ -68,13 +68,13 @@ loop-less c =
     let z = c .before .before .before .before .before .before .before .before .before .before .before .before .before .before in
     let o = c .before .before .before .loop in
     let s = c .before .before .seek in
-    less-descend (z .args .n) (c .before .before .before .before .before .before .corners-of .result) (o .t) (o .d) (o .lo) (s .result) (s .ensures (z .args .parts .now) .low (omega arith)) (omega arith) (omega (arith, o .inv .inside, o .inv .long)) (omega arith)
+    less-descend (z .args .n) (c .before .before .before .before .before .before .corners-of .result) (o .t) (o .d) (o .lo) (s .result) (s .ensures (z .args .labels .now) (z .args .parts .now) (drawn-of (z .pre .1 .0)) .low (omega arith)) (omega arith) (omega (arith, o .inv .inside, o .inv .long)) (omega arith)
 
 loop-again : tie.Need-loop-again Inv-loop μ-loop
 loop-again c =
     let z = c .before .before .before .before .before .before .before .before .before .before .before .before .before .before in
-    let w = laws-of (sought-of (z .pre .1 .0)) (z .args .kind) (z .args .mark) (z .args .parts .now) in
-    descend w (c .before .before .before .loop .inv) (c .before .before .seek .ensures (z .args .parts .now)) (omega arith) (omega (arith, c .before .before .before .before .before .before .corners-of .ensures .0))
+    let w = laws-of (sought-of (z .pre .1 .0)) (z .args .kind) (z .args .mark) (z .args .labels .now) (z .args .parts .now) in
+    descend w (c .before .before .before .loop .inv) (c .before .before .seek .ensures (z .args .labels .now) (z .args .parts .now) (drawn-of (z .pre .1 .0))) (omega arith) (omega (arith, c .before .before .before .before .before .before .corners-of .ensures .0))
 
 tested-requires : tie.Need-tested-requires Inv-loop μ-loop
 tested-requires c κs =
@@ -85,9 +85,9 @@ tested-requires c κs =
 returns : tie.Need-returns Inv-loop μ-loop
 returns c =
     let z = c .before .before .before .before .before .before .before .before .before .before .before .before .before .before .before .before in
-    let w = laws-of (sought-of (z .pre .1 .0)) (z .args .kind) (z .args .mark) (z .args .parts .now) in
+    let w = laws-of (sought-of (z .pre .1 .0)) (z .args .kind) (z .args .mark) (z .args .labels .now) (z .args .parts .now) in
     let l = c .before .tested .ensures in (
-      rw (c .if3 .taken, l .same) (result w (c .before .before .before .before .before .loop .inv) (c .before .before .before .before .seek .ensures (z .args .parts .now)) (omega arith) (omega (arith, c .before .before .before .before .before .before .before .before .corners-of .ensures .0)) (sym (l .is) ∙ c .if3 .taken)),
+      rw (c .if3 .taken, l .same) (result w (c .before .before .before .before .before .loop .inv) (c .before .before .before .before .seek .ensures (z .args .labels .now) (z .args .parts .now) (drawn-of (z .pre .1 .0))) (omega arith) (omega (arith, c .before .before .before .before .before .before .before .before .corners-of .ensures .0)) (sym (l .is) ∙ c .if3 .taken)),
       λ y. rw (l .same) (l .tets y),
     )
 
@@ -99,13 +99,13 @@ loop-less-2 c =
     let z = c .before .before .before .before .before .before .before .before .before .before .before .before .before .before .before .before in
     let o = c .before .before .before .before .before .loop in
     let s = c .before .before .before .before .seek in
-    less-reject (z .args .n) (c .before .before .before .before .before .before .before .before .corners-of .result) (o .t) (o .d) (o .lo) (s .result) (s .ensures (z .args .parts .now) .low (omega arith)) (omega arith)
+    less-reject (z .args .n) (c .before .before .before .before .before .before .before .before .corners-of .result) (o .t) (o .d) (o .lo) (s .result) (s .ensures (z .args .labels .now) (z .args .parts .now) (drawn-of (z .pre .1 .0)) .low (omega arith)) (omega arith)
 
 loop-again-2 : tie.Need-loop-again-2 Inv-loop μ-loop
 loop-again-2 c =
     let z = c .before .before .before .before .before .before .before .before .before .before .before .before .before .before .before .before in
-    let w = laws-of (sought-of (z .pre .1 .0)) (z .args .kind) (z .args .mark) (z .args .parts .now) in
-    reject w (c .before .before .before .before .before .loop .inv) (c .before .before .before .before .seek .ensures (z .args .parts .now)) (omega arith) (omega (arith, c .before .before .before .before .before .before .before .before .corners-of .ensures .0)) (sym (c .before .tested .ensures .is) ∙ c .if3 .left)
+    let w = laws-of (sought-of (z .pre .1 .0)) (z .args .kind) (z .args .mark) (z .args .labels .now) (z .args .parts .now) in
+    reject w (c .before .before .before .before .before .loop .inv) (c .before .before .before .before .seek .ensures (z .args .labels .now) (z .args .parts .now) (drawn-of (z .pre .1 .0))) (omega arith) (omega (arith, c .before .before .before .before .before .before .before .before .corners-of .ensures .0)) (sym (c .before .tested .ensures .is) ∙ c .if3 .left)
 
 none-requires : tie.Need-none-requires Inv-loop μ-loop
 none-requires c κs = search needs
@@ -113,8 +113,8 @@ none-requires c κs = search needs
 returns-2 : tie.Need-returns-2 Inv-loop μ-loop
 returns-2 c =
     let z = c .before .before .before .before .before .before .before .before .before .before .before .before .before .before .before in
-    let w = laws-of (sought-of (z .pre .1 .0)) (z .args .kind) (z .args .mark) (z .args .parts .now) in
-    (rw (c .none .ensures .0, c .none .ensures .1) (nothing w (c .before .before .before .before .loop .inv) (c .before .before .before .seek .ensures (z .args .parts .now)) (omega arith) (omega arith)), λ y. absurd (true≢false (sym y ∙ c .none .ensures .0)))
+    let w = laws-of (sought-of (z .pre .1 .0)) (z .args .kind) (z .args .mark) (z .args .labels .now) (z .args .parts .now) in
+    (rw (c .none .ensures .0, c .none .ensures .1) (nothing w (c .before .before .before .before .loop .inv) (c .before .before .before .seek .ensures (z .args .labels .now) (z .args .parts .now) (drawn-of (z .pre .1 .0))) (omega arith) (omega arith)), λ y. absurd (true≢false (sym y ∙ c .none .ensures .0)))
 
 sub-d : tie.Need-sub-d Inv-loop μ-loop
 sub-d c = omega arith
@@ -140,8 +140,8 @@ loop-less-3 c =
 loop-again-3 : tie.Need-loop-again-3 Inv-loop μ-loop
 loop-again-3 c =
     let z = c .before .before .before .before .before .before .before .before .before .before .before .before .before .before .before in
-    let w = laws-of (sought-of (z .pre .1 .0)) (z .args .kind) (z .args .mark) (z .args .parts .now) in
-    rw (c .wide2 .ensures .0) (carry w (c .before .before .before .before .loop .inv) (c .before .before .before .seek .ensures (z .args .parts .now)) (omega arith) (omega arith))
+    let w = laws-of (sought-of (z .pre .1 .0)) (z .args .kind) (z .args .mark) (z .args .labels .now) (z .args .parts .now) in
+    rw (c .wide2 .ensures .0) (carry w (c .before .before .before .before .loop .inv) (c .before .before .before .seek .ensures (z .args .labels .now) (z .args .parts .now) (drawn-of (z .pre .1 .0))) (omega arith) (omega arith))
 
 pub next-spec : {M : Type 1} → statement M
 next-spec =

@@ -7,10 +7,10 @@ use Rattle.search.proofs.start.Statement.{statement}
 use Rattle.search.proofs.start.Tie as tie
 
 abbrev Inv-loop : tie.InvT-loop
-Inv-loop tables coords labels n marks table kind mark told k d₀ d = d < k
+Inv-loop tables coords n marks table kind mark told k d₀ d = d < k
 
 abbrev μ-loop : tie.MeasureT-loop
-μ-loop tables coords labels n marks table kind mark told k d₀ d = k - d
+μ-loop tables coords n marks table kind mark told k d₀ d = k - d
 
 corners-of-requires : tie.Need-corners-of-requires Inv-loop μ-loop
 corners-of-requires c κs = search needs
@@ -19,7 +19,7 @@ sub-result : tie.Need-sub-result Inv-loop μ-loop
 sub-result c = omega arith
 
 returns : tie.Need-returns Inv-loop μ-loop
-returns c = let z = c .before .before .before .before .before .before in begins-last (z .pre .1) (z .args .kind) (z .args .t8) (omega (arith, c .before .corners-of .ensures .0))
+returns c = let z = c .before .before .before .before .before in begins-last (z .pre .1) (z .args .kind) (z .args .t7) (omega (arith, c .before .corners-of .ensures .0))
 
 loop-holds : tie.Need-loop-holds Inv-loop μ-loop
 loop-holds c = omega arith
@@ -37,12 +37,12 @@ wide-requires : tie.Need-wide-requires Inv-loop μ-loop
 wide-requires c κs = search needs
 
 seek-requires : tie.Need-seek-requires Inv-loop μ-loop
-seek-requires c κs = let z = c .before .before .before .before .before .before .before .before .before in (z .pre .0, (z .pre .1, omega (arith, c .before .before .before .before .corners-of .ensures .0)))
+seek-requires c κs = let z = c .before .before .before .before .before .before .before .before in (z .pre .0, (z .pre .1, omega (arith, c .before .before .before .before .corners-of .ensures .0)))
 
 returns-2 : tie.Need-returns-2 Inv-loop μ-loop
 returns-2 c =
-    let z = c .before .before .before .before .before .before .before .before .before .before .before in
-    begins-here (z .pre .1) (z .args .kind) (z .args .t8) (omega (arith, c .before .before .before .before .before .before .corners-of .ensures .0)) (c .before .before .wide .ensures .0) (c .if2 .taken) (c .before .seek .ensures)
+    let z = c .before .before .before .before .before .before .before .before .before .before in
+    begins-here (z .pre .1) (z .args .kind) (z .args .t7) (omega (arith, c .before .before .before .before .before .before .corners-of .ensures .0)) (c .before .before .wide .ensures .0) (c .if2 .taken) (c .before .seek .ensures)
 
 add-d : tie.Need-add-d Inv-loop μ-loop
 add-d c = omega arith
@@ -54,7 +54,7 @@ loop-again : tie.Need-loop-again Inv-loop μ-loop
 loop-again c = omega arith
 
 returns-3 : tie.Need-returns-3 Inv-loop μ-loop
-returns-3 c = let z = c .before .before .before .before .before .before .before .before in begins-last (z .pre .1) (z .args .kind) (z .args .t8) (omega (arith, c .before .before .before .corners-of .ensures .0))
+returns-3 c = let z = c .before .before .before .before .before .before .before in begins-last (z .pre .1) (z .args .kind) (z .args .t7) (omega (arith, c .before .before .before .corners-of .ensures .0))
 
 pub start-spec : {M : Type 1} → statement M
 start-spec =

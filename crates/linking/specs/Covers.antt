@@ -1,0 +1,30 @@
+-- What is said of the vertices that link two others.
+-- Assumes nothing.
+use Prim.Native.Nat.{ℕ}
+use mathlib.Core.Path.{_≡_}
+use mathlib.Core.Logic.{_⊎_}
+use mathlib.Core.Bool.{true}
+use mathlib.Core.List.{List}
+use Rattle.reaching.specs.declared.Edge.{Edge}
+use Rattle.reaching.specs.Reaching.{Links}
+use Rattle.linking.specs.declared.Linking.{Linking}
+
+-- x is among what was met: there is some; it is the vertex, where that is single, and the vertex or the other, where they are a pair
+pub record Covers (s : Linking) (x : ℕ) : Type 0 where
+  pub some : s .some ≡ true
+  pub one : s .single ≡ true → x ≡ s .vertex
+  pub two : s .pair ≡ true → (x ≡ s .vertex) ⊎ (x ≡ s .other)
+
+-- what is asked for is among what was met
+abbrev pub Only : (ℕ → Type 0) → Linking → Type 0
+Only asked s = (x : ℕ) → asked x → Covers s x
+
+-- r is s with what is asked for added: both are among what r met
+pub record Adds (asked : ℕ → Type 0) (s r : Linking) : Type 0 where
+  pub new : Only asked r
+  pub old : (y : ℕ) → Covers s y → Covers r y
+
+-- y is x, which links w and v at u, where the edge goes from w to u
+pub record LinkAt (n : ℕ) (table ms : List ℕ) (e : Edge) (v x y : ℕ) : Type 0 where
+  pub same : y ≡ x
+  pub links : Links n table ms e x v

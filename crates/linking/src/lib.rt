@@ -1,0 +1,163 @@
+// The vertices that link the two ends of a face's three known corners: none, a single one, a pair, or more.
+use marks::is_noted;
+use neighbours::row_of;
+use reaching::Edge;
+use reaching::MANY;
+use reaching::may_link;
+use reaching::shorter;
+use space::Vertex;
+ghost use mathlib.Core.Path.{_≡_};
+ghost use mathlib.Core.Logic.{_⊎_};
+ghost use mathlib.Core.Bool.{true};
+ghost use lib.ListN.{length};
+ghost use Rattle.marks.specs.Marks.{noted};
+ghost use Rattle.neighbours.specs.Reading.{Rowed};
+ghost use Rattle.reaching.specs.Reaching.{Lent, Links, ByRow};
+ghost use Rattle.linking.specs.Covers.{Only, Adds, LinkAt};
+
+// The linking vertices that were met: whether there are some, whether it is a single one, vertex, or a pair, vertex and other.
+// Of more, vertex is one with the most neighbours. The choice is a matter of speed alone.
+pub struct Linking {
+    pub some: bool,
+    pub single: bool,
+    pub pair: bool,
+    pub vertex: u16,
+    pub other: u16,
+}
+
+// Of two vertices, one with the most neighbours.
+pub fn fuller(n: usize, table: &[u16], x: Vertex, y: Vertex) -> u16
+    requires { ⌜ Rowed n (now table) ⌝ }
+    ensures { λ r. ⌜ (r ≡ x .0) ⊎ (r ≡ y .0) ⌝ }
+{
+    let p = row_of(n, table, x);
+    let q = row_of(n, table, y);
+    if p.size < q.size { y.0 } else { x.0 }
+}
+
+// A linking vertex more.
+fn one_more(n: usize, table: &[u16], x: Vertex, s: Linking) -> Linking
+    requires { ⌜ Rowed n (now table) ⌝ }
+    ensures { λ r. ⌜ Adds (λ y. y ≡ x .0) s r ⌝ }
+{
+    if !s.some {
+        return Linking {
+            some: true,
+            single: true,
+            pair: false,
+            vertex: x.0,
+            other: x.0,
+        };
+    }
+    let y = Vertex(s.vertex);
+    if s.single {
+        return Linking {
+            some: true,
+            single: false,
+            pair: true,
+            vertex: y.0,
+            other: x.0,
+        };
+    }
+    let z = Vertex(fuller(n, table, y, Vertex(s.other)));
+    Linking {
+        some: true,
+        single: false,
+        pair: false,
+        vertex: fuller(n, table, x, z),
+        other: x.0,
+    }
+}
+
+// The vertex x more, where it may link w and v at u, where the edge goes from w to u.
+fn sole_at(
+    n: usize,
+    table: &[u16],
+    marks: &[u8],
+    e: Edge,
+    v: Vertex,
+    x: Vertex,
+    s: Linking,
+) -> Linking
+    requires { ⌜ Lent n (now table) (now marks) ⌝ }
+    ensures { λ r. ⌜ Adds (LinkAt n (now (table .entry)) (now (marks .entry)) e (v .0) (x .0)) s r ⌝ }
+{
+    if !may_link(e, x) {
+        return s;
+    }
+    let u = e.u;
+    let w = e.w;
+    if !is_noted(marks, u, x, v) {
+        return s;
+    }
+    if is_noted(marks, u, w, x) {
+        return one_more(n, table, x, s);
+    }
+    s
+}
+
+// The same for each entry x of a row.
+fn sole_row(n: usize, table: &[u16], marks: &[u8], row: &[u16], e: Edge, v: Vertex) -> Linking
+    requires { ⌜ Lent n (now table) (now marks) ⌝ }
+    ensures { λ r. ⌜ Only (ByRow (LinkAt n (now (table .entry)) (now (marks .entry)) e (v .0)) (now (row .entry)) (length (now (row .entry)))) r ⌝ }
+{
+    let mut s = Linking {
+        some: false,
+        single: false,
+        pair: false,
+        vertex: 65535,
+        other: 65535,
+    };
+    let mut k = 0;
+    while k < row.len() {
+        s = sole_at(n, table, marks, e, v, Vertex(row[k]), s);
+        k += 1;
+    }
+    s
+}
+
+// The vertices that link w and v at u. None of them is left out; one that the marks merely do not exclude may be counted too. Where there are
+// many to look through, it is said that there may be several, and vertex is no vertex.
+pub fn sole(n: usize, table: &[u16], marks: &[u8], e: Edge, v: Vertex) -> Linking
+    requires { ⌜ Lent n (now table) (now marks) ⌝ }
+    ensures { λ r. ⌜ Only (λ x. Links n (now (table .entry)) (now (marks .entry)) e x (v .0)) r ⌝ }
+{
+    let u = e.u;
+    let w = e.w;
+    let row = shorter(n, table, u, w);
+    if MANY < row.size {
+        return Linking {
+            some: true,
+            single: false,
+            pair: false,
+            vertex: 65535,
+            other: 65535,
+        };
+    }
+    let from = row.from;
+    let end = from + row.size;
+    sole_row(n, table, marks, &table[from..end], e, v)
+}
+
+// Of the vertices that may make a facet with u and w, one with the most neighbours; where there is none or both have many, no vertex.
+pub fn fullest(n: usize, table: &[u16], marks: &[u8], u: Vertex, w: Vertex) -> u16
+    requires { ⌜ Lent n (now table) (now marks) ⌝ }
+    ensures { λ r. ⌜ (r ≡ 65535) ⊎ (noted (now (marks .entry)) (u .0) (w .0) r ≡ true) ⌝ }
+{
+    let row = shorter(n, table, u, w);
+    if MANY < row.size {
+        return 65535;
+    }
+    let from = row.from;
+    let end = from + row.size;
+    let part = &table[from..end];
+    let mut p = 65535;
+    let mut k = 0;
+    while k < part.len() {
+        if is_noted(marks, u, w, Vertex(part[k])) {
+            p = fuller(n, table, Vertex(part[k]), Vertex(p));
+        }
+        k += 1;
+    }
+    p
+}
