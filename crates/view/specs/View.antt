@@ -1,5 +1,5 @@
--- What is answered of one vertex or one tetrahedron of a file, for counts n and t: for counts that do not fill the file,
--- nothing is anywhere.
+-- What is answered of one vertex or one tetrahedron of a file, for counts n and t. For counts that do not fill the
+-- file, nothing is anywhere.
 -- Assumes nothing.
 use Prim.Native.Nat.{ℕ, _+_, _*_}
 use mathlib.Core.List.{List, []}

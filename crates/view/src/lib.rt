@@ -1,5 +1,5 @@
-// One vertex and one tetrahedron of a mesh file, read from its own bytes for given counts: nothing is anywhere where the
-// counts do not fill the file.
+// One vertex and one tetrahedron of a mesh file, read from its own bytes for given counts. Where these do not fill the
+// file, nothing is anywhere.
 use layout::i32_at;
 use layout::u16_at;
 use space::Point;

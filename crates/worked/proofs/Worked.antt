@@ -1,4 +1,5 @@
--- The rows of `specs/Rows.antt` hold. The full lists are those of crate `once`, and the rows follow from them by computation.
+-- The rows of `specs/Rows.antt` hold. The full lists are those of crate `once`, and the calls follow from them by
+-- computation; so do the answers of the check, from the bytes.
 -- Assumes nothing.
 use Prim.Native.Nat.{ℕ}
 use mathlib.Core.Path.{_≡_, refl, sym, _∙_, ap}

@@ -1,4 +1,5 @@
--- `decoding::read_coordinates` meets its contract. The loop's invariant: the entries passed are filled. Assumes nothing.
+-- `decoding::read_coordinates` meets its contract. The loop's invariant: the entries passed are filled.
+-- Assumes nothing.
 use mathlib.Core.Path.{_∙_}
 use mathlib.Core.List.{List}
 use Prim.Native.Nat.{ℕ, _*_, _-_}

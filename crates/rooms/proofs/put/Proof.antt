@@ -1,4 +1,5 @@
--- `rooms::put` meets its contract. The loop's invariant: what it has passed of the list is laid from `from` on. Assumes nothing.
+-- `rooms::put` meets its contract. The loop's invariant: what it has passed of the list is laid from
+-- `from` on. Assumes nothing.
 use mathlib.Core.Path.{refl}
 use Prim.Native.Nat.{_+_, _-_, _≤_, _<_}
 use native.Mathlib.Omega.{arith}
