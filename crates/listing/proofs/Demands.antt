@@ -32,6 +32,7 @@ use Rattle.portioning.specs.Portion.{barred, portionBy, Promised}
 use Rattle.listing.specs.Demands.{Demand2, Demand3, Called, none, last, more}
 use Rattle.portioning.proofs.Promised.{bars-none}
 use Rattle.listing.proofs.File.{accepted-passed}
+use Rattle.listing.proofs.Ending.{come-to-end}
 
 -- ---- a call that is not refused early
 
@@ -63,7 +64,7 @@ pub demand2 : (f : List ℕ) → Demand2 f
 demand2 f e = once (decoded f)
 
 module _ (f : List ℕ) where
-  called-calls : {k k′ : Mark} {rooms : List (List ℕ)} {got : List ℕ} {over : Bool} → Called f k rooms got over k′ → Calls tetRule (fullList (decoded f)) (markOf k) rooms got over (markOf k′)
+  called-calls : {k k′ : Mark} {tables rooms : List (List ℕ)} {got : List ℕ} {over : Bool} → Called f k tables rooms got over k′ → Calls tetRule (fullList (decoded f)) (markOf k) rooms got over (markOf k′)
   unfolding read
   called-calls none = run.none
   called-calls (last p) = run.last (outcome-call tetRule (fullList (decoded f)) (lawful (decoded f)) (given-outcome p))
@@ -78,7 +79,7 @@ module _ (f : List ℕ) where
 
   pub demand3 : Demand3 f
   demand3 = record {
-    listed = λ {s} {k′} {rooms} {got} e r.
+    listed = λ {s} e r.
         let c = called-calls r in
         let p = calls tetRule (fullList (decoded f)) (lawful (decoded f)) c in
         let w = all-after s e in (
@@ -94,4 +95,5 @@ module _ (f : List ℕ) where
         let o = passed p (bars-none (refusals f) (decoded f) (vertices f) (accepted-passed f z) (length table) (length room) t w) in
         let e = ends tetRule (fullList (decoded f)) (lawful (decoded f)) (length room) w in
         (o .answered ∙ ap (λ q. q .answer) e, o .stored .content ∙ lay-front (portion tetRule (fullList (decoded f)) (tetRule .end) (length room) .written) room ∙ ap (λ q. q .written ++ drop (length (q .written)) room) e);
+    reaches = come-to-end f;
   }

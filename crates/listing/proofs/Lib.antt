@@ -1,3 +1,4 @@
 pub mod Refusals
 pub mod File
+pub mod Ending
 pub mod Demands
