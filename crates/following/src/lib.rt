@@ -213,7 +213,7 @@ pub fn is_any_left(
 {
     let lo = first_after(mark);
     if 5 <= mark.kind {
-        if sees(coords, labels, parts, n, offsets, entries, lo) {
+        if sees(coords, labels, parts, offsets, entries, lo) {
             return true;
         }
     }

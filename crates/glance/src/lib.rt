@@ -23,19 +23,18 @@ fn is_seen(
     coords: &[i64],
     labels: &[u16],
     parts: &[u16],
-    n: usize,
     offsets: &[u16],
     entries: &[u16],
     lo: usize,
     tuple: [u16; 8],
 ) -> bool
-    requires { ⌜ Arrays (now coords) (now labels) (now parts) n (now offsets) (now entries) ⌝ }
+    requires { ⌜ Arrays (now coords) (now labels) (now parts) (length (now coords) / 3) (now offsets) (now entries) ⌝ }
     ensures { λ r. ⌜ (r ≡ true → Seen (meshOf (now (coords .entry)) (now (labels .entry)) (now (parts .entry))) lo) ⌝ }
 {
     if (tuple[0] as usize) < lo {
         return false;
     }
-    let v = is_leaf(coords, labels, parts, n, offsets, entries, 5, tuple);
+    let v = is_leaf(coords, labels, parts, offsets, entries, 5, tuple);
     v.yes
 }
 
@@ -44,14 +43,13 @@ fn is_beside(
     coords: &[i64],
     labels: &[u16],
     parts: &[u16],
-    n: usize,
     offsets: &[u16],
     entries: &[u16],
     lo: usize,
     e: Tet,
     m: Tet,
 ) -> bool
-    requires { ⌜ Arrays (now coords) (now labels) (now parts) n (now offsets) (now entries) ⌝ }
+    requires { ⌜ Arrays (now coords) (now labels) (now parts) (length (now coords) / 3) (now offsets) (now entries) ⌝ }
     requires { ⌜ (e .0 < length (now labels) / 4) × (m .0 < length (now labels) / 4) ⌝ }
     ensures { λ r. ⌜ (r ≡ true → Seen (meshOf (now (coords .entry)) (now (labels .entry)) (now (parts .entry))) lo) ⌝ }
 {
@@ -60,23 +58,14 @@ fn is_beside(
         return false;
     }
     let s = pyramid(p, 0);
-    if is_seen(coords, labels, parts, n, offsets, entries, lo, s) {
+    if is_seen(coords, labels, parts, offsets, entries, lo, s) {
         return true;
     }
     let t = pyramid(p, 1);
-    if is_seen(coords, labels, parts, n, offsets, entries, lo, t) {
+    if is_seen(coords, labels, parts, offsets, entries, lo, t) {
         return true;
     }
-    is_seen(
-        coords,
-        labels,
-        parts,
-        n,
-        offsets,
-        entries,
-        lo,
-        pyramid(p, 2),
-    )
+    is_seen(coords, labels, parts, offsets, entries, lo, pyramid(p, 2))
 }
 
 // A pyramid of e and one of the row.
@@ -84,21 +73,20 @@ fn is_in(
     coords: &[i64],
     labels: &[u16],
     parts: &[u16],
-    n: usize,
     offsets: &[u16],
     entries: &[u16],
     lo: usize,
     row: &[u16],
     e: Tet,
 ) -> bool
-    requires { ⌜ Arrays (now coords) (now labels) (now parts) n (now offsets) (now entries) ⌝ }
+    requires { ⌜ Arrays (now coords) (now labels) (now parts) (length (now coords) / 3) (now offsets) (now entries) ⌝ }
     requires { ⌜ (e .0 < length (now labels) / 4) × Within (length (now labels) / 4) (now row) ⌝ }
     ensures { λ r. ⌜ (r ≡ true → Seen (meshOf (now (coords .entry)) (now (labels .entry)) (now (parts .entry))) lo) ⌝ }
 {
     let mut k = 0;
     while k < row.len() {
         let m = row[k];
-        if is_beside(coords, labels, parts, n, offsets, entries, lo, e, Tet(m)) {
+        if is_beside(coords, labels, parts, offsets, entries, lo, e, Tet(m)) {
             return true;
         }
         k += 1;
@@ -111,13 +99,12 @@ fn is_at(
     coords: &[i64],
     labels: &[u16],
     parts: &[u16],
-    n: usize,
     offsets: &[u16],
     entries: &[u16],
     lo: usize,
     e: Tet,
 ) -> bool
-    requires { ⌜ Arrays (now coords) (now labels) (now parts) n (now offsets) (now entries) ⌝ }
+    requires { ⌜ Arrays (now coords) (now labels) (now parts) (length (now coords) / 3) (now offsets) (now entries) ⌝ }
     requires { ⌜ e .0 < length (now labels) / 4 ⌝ }
     ensures { λ r. ⌜ (r ≡ true → Seen (meshOf (now (coords .entry)) (now (labels .entry)) (now (parts .entry))) lo) ⌝ }
 {
@@ -125,6 +112,7 @@ fn is_at(
     let a = Vertex(labels[at]);
     let b = Vertex(labels[at + 1]);
     let c = Vertex(labels[at + 2]);
+    let n = coords.len() / 3;
     let x = rarest(labels, n, offsets, entries, a, b, c);
     let row = row_of(labels, n, offsets, entries, x);
     let from = row.from;
@@ -133,7 +121,6 @@ fn is_at(
         coords,
         labels,
         parts,
-        n,
         offsets,
         entries,
         lo,
@@ -147,12 +134,11 @@ pub fn sees(
     coords: &[i64],
     labels: &[u16],
     parts: &[u16],
-    n: usize,
     offsets: &[u16],
     entries: &[u16],
     lo: usize,
 ) -> bool
-    requires { ⌜ Arrays (now coords) (now labels) (now parts) n (now offsets) (now entries) ⌝ }
+    requires { ⌜ Arrays (now coords) (now labels) (now parts) (length (now coords) / 3) (now offsets) (now entries) ⌝ }
     ensures { λ r. ⌜ (r ≡ true → Seen (meshOf (now (coords .entry)) (now (labels .entry)) (now (parts .entry))) lo) ⌝ }
 {
     let t = labels.len() / 4;
@@ -160,8 +146,8 @@ pub fn sees(
         return false;
     }
     let last = Tet((t - 1) as u16);
-    if is_at(coords, labels, parts, n, offsets, entries, lo, last) {
+    if is_at(coords, labels, parts, offsets, entries, lo, last) {
         return true;
     }
-    is_at(coords, labels, parts, n, offsets, entries, lo, Tet(0))
+    is_at(coords, labels, parts, offsets, entries, lo, Tet(0))
 }

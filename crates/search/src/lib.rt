@@ -125,16 +125,15 @@ fn tested(
     coords: &[i64],
     labels: &[u16],
     parts: &[u16],
-    n: usize,
     offsets: &[u16],
     entries: &[u16],
     kind: u16,
     t: [u16; 8],
 ) -> Found
-    requires { ⌜ Arrays (now coords) (now labels) (now parts) n (now offsets) (now entries) ⌝ }
+    requires { ⌜ Arrays (now coords) (now labels) (now parts) (length (now coords) / 3) (now offsets) (now entries) ⌝ }
     ensures { λ r. ⌜ Tested (meshOf (now (coords .entry)) (now (labels .entry)) (now (parts .entry))) (templateOf kind) t r ⌝ }
 {
-    let v = is_leaf(coords, labels, parts, n, offsets, entries, kind, t);
+    let v = is_leaf(coords, labels, parts, offsets, entries, kind, t);
     let tets = v.tets;
     Found {
         found: v.yes,
@@ -186,7 +185,7 @@ pub fn next(
                 d += 1;
                 lo = 0;
             } else {
-                let r = tested(coords, labels, parts, n, offsets, entries, kind, t);
+                let r = tested(coords, labels, parts, offsets, entries, kind, t);
                 if r.found {
                     return r;
                 }

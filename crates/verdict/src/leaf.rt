@@ -6,6 +6,8 @@ use least::is_least;
 use order::letters;
 ghost use mathlib.Core.Path.{_≡_};
 ghost use mathlib.Core.Bool.{true};
+ghost use Prim.Native.Nat.{_/_};
+ghost use lib.ListN.{length};
 ghost use Rattle.space.specs.Arrays.{meshOf};
 ghost use Rattle.templates.specs.Tables.{templateOf};
 ghost use Rattle.filling.specs.Found.{Found};
@@ -17,13 +19,12 @@ pub fn is_leaf(
     coords: &[i64],
     labels: &[u16],
     parts: &[u16],
-    n: usize,
     offsets: &[u16],
     entries: &[u16],
     kind: u16,
     s: [u16; 8],
 ) -> Verdict
-    requires { ⌜ Arrays (now coords) (now labels) (now parts) n (now offsets) (now entries) ⌝ }
+    requires { ⌜ Arrays (now coords) (now labels) (now parts) (length (now coords) / 3) (now offsets) (now entries) ⌝ }
     ensures { λ r. ⌜ r .yes ≡ isLeaf (meshOf (now (coords .entry)) (now (labels .entry)) (now (parts .entry))) (templateOf kind) s ⌝ }
     ensures { λ r. ⌜ (r .yes ≡ true → Found (cellAt (meshOf (now (coords .entry)) (now (labels .entry)) (now (parts .entry))) (templateOf kind) s .tets) (r .tets)) ⌝ }
 {
@@ -31,5 +32,5 @@ pub fn is_leaf(
     if !is_least(kind, &c) {
         return no();
     }
-    is_cell(coords, labels, parts, n, offsets, entries, kind, &c)
+    is_cell(coords, labels, parts, offsets, entries, kind, &c)
 }

@@ -1,16 +1,14 @@
 // The cell test, for a kind and its eight numbers: the first of conditions 1 to 6 that a tuple fails; whether it is a cell, with its tetrahedra.
 ghost use mathlib.Core.Path.{_≡_};
 ghost use mathlib.Core.Bool.{false};
-ghost use Prim.Native.Nat.{_*_, _/_, _≤_};
+ghost use Prim.Native.Nat.{_/_, _≤_};
 ghost use lib.ListN.{length, take};
 ghost use Rattle.space.specs.Arrays.{meshOf};
 ghost use Rattle.around.specs.Arrays.{Arrays};
-ghost use Rattle.around.specs.Index.{Indexed};
 ghost use Rattle.templates.specs.Tables.{Template, hexahedron, prism, pyramid, templateOf};
 ghost use Rattle.templates.specs.Flat.{pairs};
 ghost use Rattle.cells.specs.Cells.{isCell, firstFailing};
 ghost use Rattle.counting.specs.Noted.{Lettered};
-ghost use Rattle.judging.specs.Last.{lastFailing};
 ghost use Rattle.verdict.specs.Judged.{TablesOf, isSolid, Tells, noTets};
 
 mod leaf;
@@ -49,32 +47,11 @@ pub struct Verdict {
 
 // ---- the first condition that fails
 
-// Of conditions 5 and 6, for a tuple: 5, 6 or 0.
-fn judge_tets(
-    labels: &[u16],
-    parts: &[u16],
-    n: usize,
-    offsets: &[u16],
-    entries: &[u16],
-    c: &[u16],
-    triangles: &[u8],
-    quads: &[u8],
-    within: &[u8],
-) -> u8
-    requires { ⌜ Indexed (now labels) n (now offsets) (now entries) × (length (now parts) ≡ length (now labels) / 4) ⌝ }
-    requires { ⌜ Lettered (now triangles) (now quads) (now within) ⌝ }
-    ensures { λ r. ⌜ r ≡ lastFailing (now (labels .entry)) (now (parts .entry)) (now (c .entry)) (now (triangles .entry)) (now (quads .entry)) (now (within .entry)) ⌝ }
-{
-    let found = find(labels, n, offsets, entries, c, quads);
-    judge_found(labels, parts, found, c, triangles, quads, within)
-}
-
 // For whatever template these tables are of; `within` are the triples on no face.
 fn judge_by(
     coords: &[i64],
     labels: &[u16],
     parts: &[u16],
-    n: usize,
     offsets: &[u16],
     entries: &[u16],
     c: &[u16],
@@ -85,13 +62,14 @@ fn judge_by(
     triples: &[u8],
     within: &[u8],
 ) -> u8
-    requires { ⌜ Arrays (now coords) (now labels) (now parts) n (now offsets) (now entries) ⌝ }
+    requires { ⌜ Arrays (now coords) (now labels) (now parts) (length (now coords) / 3) (now offsets) (now entries) ⌝ }
     requires { ⌜ Lettered (now triangles) (now quads) (now within) ⌝ }
     ensures { λ r. ⌜ ((t : Template) → TablesOf t corners (now (triangles .entry)) (now (quads .entry)) (now (triples .entry)) (now (within .entry)) → pairs (now (edges .entry)) ≡ t .edges → r ≡ firstFailing (meshOf (now (coords .entry)) (now (labels .entry)) (now (parts .entry))) t (now (c .entry))) ⌝ }
 {
     if !is_tuple(coords, c, corners) {
         return 1;
     }
+    let n = coords.len() / 3;
     if !has_edges(labels, n, offsets, entries, c, edges) {
         return 2;
     }
@@ -101,36 +79,25 @@ fn judge_by(
     if !is_sound(coords, c, triples) {
         return 4;
     }
-    judge_tets(
-        labels,
-        parts,
-        n,
-        offsets,
-        entries,
-        c,
-        triangles,
-        quads,
-        within,
-    )
+    let found = find(labels, n, offsets, entries, c, quads);
+    judge_found(labels, parts, found, c, triangles, quads, within)
 }
 
 fn judge_hexahedron(
     coords: &[i64],
     labels: &[u16],
     parts: &[u16],
-    n: usize,
     offsets: &[u16],
     entries: &[u16],
     c: &[u16],
 ) -> u8
-    requires { ⌜ Arrays (now coords) (now labels) (now parts) n (now offsets) (now entries) ⌝ }
+    requires { ⌜ Arrays (now coords) (now labels) (now parts) (length (now coords) / 3) (now offsets) (now entries) ⌝ }
     ensures { λ r. ⌜ r ≡ firstFailing (meshOf (now (coords .entry)) (now (labels .entry)) (now (parts .entry))) hexahedron (now (c .entry)) ⌝ }
 {
     judge_by(
         coords,
         labels,
         parts,
-        n,
         offsets,
         entries,
         c,
@@ -147,19 +114,17 @@ fn judge_prism(
     coords: &[i64],
     labels: &[u16],
     parts: &[u16],
-    n: usize,
     offsets: &[u16],
     entries: &[u16],
     c: &[u16],
 ) -> u8
-    requires { ⌜ Arrays (now coords) (now labels) (now parts) n (now offsets) (now entries) ⌝ }
+    requires { ⌜ Arrays (now coords) (now labels) (now parts) (length (now coords) / 3) (now offsets) (now entries) ⌝ }
     ensures { λ r. ⌜ r ≡ firstFailing (meshOf (now (coords .entry)) (now (labels .entry)) (now (parts .entry))) prism (now (c .entry)) ⌝ }
 {
     judge_by(
         coords,
         labels,
         parts,
-        n,
         offsets,
         entries,
         c,
@@ -176,19 +141,17 @@ fn judge_pyramid(
     coords: &[i64],
     labels: &[u16],
     parts: &[u16],
-    n: usize,
     offsets: &[u16],
     entries: &[u16],
     c: &[u16],
 ) -> u8
-    requires { ⌜ Arrays (now coords) (now labels) (now parts) n (now offsets) (now entries) ⌝ }
+    requires { ⌜ Arrays (now coords) (now labels) (now parts) (length (now coords) / 3) (now offsets) (now entries) ⌝ }
     ensures { λ r. ⌜ r ≡ firstFailing (meshOf (now (coords .entry)) (now (labels .entry)) (now (parts .entry))) pyramid (now (c .entry)) ⌝ }
 {
     judge_by(
         coords,
         labels,
         parts,
-        n,
         offsets,
         entries,
         c,
@@ -205,22 +168,21 @@ fn judge_kind(
     coords: &[i64],
     labels: &[u16],
     parts: &[u16],
-    n: usize,
     offsets: &[u16],
     entries: &[u16],
     kind: u16,
     tuple: &[u16],
 ) -> u8
-    requires { ⌜ Arrays (now coords) (now labels) (now parts) n (now offsets) (now entries) × (8 ≤ length (now tuple)) ⌝ }
+    requires { ⌜ Arrays (now coords) (now labels) (now parts) (length (now coords) / 3) (now offsets) (now entries) × (8 ≤ length (now tuple)) ⌝ }
     ensures { λ r. ⌜ r ≡ firstFailing (meshOf (now (coords .entry)) (now (labels .entry)) (now (parts .entry))) (templateOf kind) (take (templateOf kind .corners) (now (tuple .entry))) ⌝ }
 {
     if kind == 8 {
-        return judge_hexahedron(coords, labels, parts, n, offsets, entries, &tuple[..8]);
+        return judge_hexahedron(coords, labels, parts, offsets, entries, &tuple[..8]);
     }
     if kind == 6 {
-        return judge_prism(coords, labels, parts, n, offsets, entries, &tuple[..6]);
+        return judge_prism(coords, labels, parts, offsets, entries, &tuple[..6]);
     }
-    judge_pyramid(coords, labels, parts, n, offsets, entries, &tuple[..5])
+    judge_pyramid(coords, labels, parts, offsets, entries, &tuple[..5])
 }
 
 // The first condition that a tuple fails, 0 of a cell. A kind other than 8 and 6 counts as 5.
@@ -228,16 +190,15 @@ pub fn judge(
     coords: &[i64],
     labels: &[u16],
     parts: &[u16],
-    n: usize,
     offsets: &[u16],
     entries: &[u16],
     kind: u16,
     tuple: &[u16; 8],
 ) -> u8
-    requires { ⌜ Arrays (now coords) (now labels) (now parts) n (now offsets) (now entries) ⌝ }
+    requires { ⌜ Arrays (now coords) (now labels) (now parts) (length (now coords) / 3) (now offsets) (now entries) ⌝ }
     ensures { λ r. ⌜ r ≡ firstFailing (meshOf (now (coords .entry)) (now (labels .entry)) (now (parts .entry))) (templateOf kind) (take (templateOf kind .corners) (now (tuple .entry))) ⌝ }
 {
-    judge_kind(coords, labels, parts, n, offsets, entries, kind, tuple)
+    judge_kind(coords, labels, parts, offsets, entries, kind, tuple)
 }
 
 // ---- whether a tuple is a cell
@@ -266,7 +227,6 @@ fn is_solid(
     coords: &[i64],
     labels: &[u16],
     parts: &[u16],
-    n: usize,
     offsets: &[u16],
     entries: &[u16],
     c: &[u16],
@@ -276,7 +236,7 @@ fn is_solid(
     triples: &[u8],
     within: &[u8],
 ) -> Verdict
-    requires { ⌜ Arrays (now coords) (now labels) (now parts) n (now offsets) (now entries) ⌝ }
+    requires { ⌜ Arrays (now coords) (now labels) (now parts) (length (now coords) / 3) (now offsets) (now entries) ⌝ }
     requires { ⌜ Lettered (now triangles) (now quads) (now within) ⌝ }
     ensures { λ r. ⌜ ((t : Template) → TablesOf t corners (now (triangles .entry)) (now (quads .entry)) (now (triples .entry)) (now (within .entry)) → Tells isSolid (meshOf (now (coords .entry)) (now (labels .entry)) (now (parts .entry))) t (now (c .entry)) r) ⌝ }
 {
@@ -286,6 +246,7 @@ fn is_solid(
     if !is_sound(coords, c, triples) {
         return no();
     }
+    let n = coords.len() / 3;
     let found = find(labels, n, offsets, entries, c, quads);
     let last = judge_found(labels, parts, found, c, triangles, quads, within);
     Verdict {
@@ -298,19 +259,17 @@ fn is_hexahedron(
     coords: &[i64],
     labels: &[u16],
     parts: &[u16],
-    n: usize,
     offsets: &[u16],
     entries: &[u16],
     c: &[u16],
 ) -> Verdict
-    requires { ⌜ Arrays (now coords) (now labels) (now parts) n (now offsets) (now entries) ⌝ }
+    requires { ⌜ Arrays (now coords) (now labels) (now parts) (length (now coords) / 3) (now offsets) (now entries) ⌝ }
     ensures { λ r. ⌜ Tells isCell (meshOf (now (coords .entry)) (now (labels .entry)) (now (parts .entry))) hexahedron (now (c .entry)) r ⌝ }
 {
     is_solid(
         coords,
         labels,
         parts,
-        n,
         offsets,
         entries,
         c,
@@ -326,19 +285,17 @@ fn is_prism(
     coords: &[i64],
     labels: &[u16],
     parts: &[u16],
-    n: usize,
     offsets: &[u16],
     entries: &[u16],
     c: &[u16],
 ) -> Verdict
-    requires { ⌜ Arrays (now coords) (now labels) (now parts) n (now offsets) (now entries) ⌝ }
+    requires { ⌜ Arrays (now coords) (now labels) (now parts) (length (now coords) / 3) (now offsets) (now entries) ⌝ }
     ensures { λ r. ⌜ Tells isCell (meshOf (now (coords .entry)) (now (labels .entry)) (now (parts .entry))) prism (now (c .entry)) r ⌝ }
 {
     is_solid(
         coords,
         labels,
         parts,
-        n,
         offsets,
         entries,
         c,
@@ -354,19 +311,17 @@ fn is_pyramid(
     coords: &[i64],
     labels: &[u16],
     parts: &[u16],
-    n: usize,
     offsets: &[u16],
     entries: &[u16],
     c: &[u16],
 ) -> Verdict
-    requires { ⌜ Arrays (now coords) (now labels) (now parts) n (now offsets) (now entries) ⌝ }
+    requires { ⌜ Arrays (now coords) (now labels) (now parts) (length (now coords) / 3) (now offsets) (now entries) ⌝ }
     ensures { λ r. ⌜ Tells isCell (meshOf (now (coords .entry)) (now (labels .entry)) (now (parts .entry))) pyramid (now (c .entry)) r ⌝ }
 {
     is_solid(
         coords,
         labels,
         parts,
-        n,
         offsets,
         entries,
         c,
@@ -382,22 +337,21 @@ fn is_of_kind(
     coords: &[i64],
     labels: &[u16],
     parts: &[u16],
-    n: usize,
     offsets: &[u16],
     entries: &[u16],
     kind: u16,
     tuple: &[u16],
 ) -> Verdict
-    requires { ⌜ Arrays (now coords) (now labels) (now parts) n (now offsets) (now entries) × (8 ≤ length (now tuple)) ⌝ }
+    requires { ⌜ Arrays (now coords) (now labels) (now parts) (length (now coords) / 3) (now offsets) (now entries) × (8 ≤ length (now tuple)) ⌝ }
     ensures { λ r. ⌜ Tells isCell (meshOf (now (coords .entry)) (now (labels .entry)) (now (parts .entry))) (templateOf kind) (take (templateOf kind .corners) (now (tuple .entry))) r ⌝ }
 {
     if kind == 8 {
-        return is_hexahedron(coords, labels, parts, n, offsets, entries, &tuple[..8]);
+        return is_hexahedron(coords, labels, parts, offsets, entries, &tuple[..8]);
     }
     if kind == 6 {
-        return is_prism(coords, labels, parts, n, offsets, entries, &tuple[..6]);
+        return is_prism(coords, labels, parts, offsets, entries, &tuple[..6]);
     }
-    is_pyramid(coords, labels, parts, n, offsets, entries, &tuple[..5])
+    is_pyramid(coords, labels, parts, offsets, entries, &tuple[..5])
 }
 
 // The tuple is a cell, and its tetrahedra: as `judge` would say, but conditions 2 and 3 are not looked at, since 5 implies them.
@@ -405,14 +359,13 @@ pub fn is_cell(
     coords: &[i64],
     labels: &[u16],
     parts: &[u16],
-    n: usize,
     offsets: &[u16],
     entries: &[u16],
     kind: u16,
     tuple: &[u16; 8],
 ) -> Verdict
-    requires { ⌜ Arrays (now coords) (now labels) (now parts) n (now offsets) (now entries) ⌝ }
+    requires { ⌜ Arrays (now coords) (now labels) (now parts) (length (now coords) / 3) (now offsets) (now entries) ⌝ }
     ensures { λ r. ⌜ Tells isCell (meshOf (now (coords .entry)) (now (labels .entry)) (now (parts .entry))) (templateOf kind) (take (templateOf kind .corners) (now (tuple .entry))) r ⌝ }
 {
-    is_of_kind(coords, labels, parts, n, offsets, entries, kind, tuple)
+    is_of_kind(coords, labels, parts, offsets, entries, kind, tuple)
 }

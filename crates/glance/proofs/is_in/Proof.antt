@@ -8,10 +8,10 @@ use Rattle.glance.proofs.is_in.Statement.{statement}
 use Rattle.glance.proofs.is_in.Tie as tie
 
 abbrev Inv-loop : tie.InvT-loop
-Inv-loop coords labels parts n offsets entries lo row e k₀ k = k ≤ length row
+Inv-loop coords labels parts offsets entries lo row e k₀ k = k ≤ length row
 
 abbrev μ-loop : tie.MeasureT-loop
-μ-loop coords labels parts n offsets entries lo row e k₀ k = length row - k
+μ-loop coords labels parts offsets entries lo row e k₀ k = length row - k
 
 loop-holds : tie.Need-loop-holds Inv-loop μ-loop
 loop-holds c = omega arith

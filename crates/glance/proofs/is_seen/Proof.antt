@@ -19,7 +19,7 @@ is-leaf-requires : tie.Need-is-leaf-requires
 is-leaf-requires c κs = search needs
 
 returns-2 : tie.Need-returns-2
-returns-2 c y = record { tuple = c .before .before .before .before .before .before .args .t8; leaf = sym (c .is-leaf .ensures .0) ∙ y; first = omega (arith, c .before .if1 .left) }
+returns-2 c y = record { tuple = c .before .before .before .before .before .before .args .t7; leaf = sym (c .is-leaf .ensures .0) ∙ y; first = omega (arith, c .before .if1 .left) }
 
 pub is-seen-spec : {M : Type 1} → statement M
 is-seen-spec = tie.close (tie.spec array-read-if1 cast-if1 returns is-leaf-requires returns-2)

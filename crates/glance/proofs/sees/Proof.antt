@@ -9,11 +9,11 @@ use Rattle.glance.proofs.sees.Tie as tie
 returns : tie.Need-returns
 returns c y = absurd (true≢false (sym y))
 
-sub-t10 : tie.Need-sub-t10
-sub-t10 c = search needs
+sub-t9 : tie.Need-sub-t9
+sub-t9 c = search needs
 
-cast-t12 : tie.Need-cast-t12
-cast-t12 c = search needs
+cast-t11 : tie.Need-cast-t11
+cast-t11 c = search needs
 
 is-at-requires : tie.Need-is-at-requires
 is-at-requires c κs = let s = c .before .before .before .before .before in (s .pre, omega (arith, c .if1 .left))
@@ -32,4 +32,4 @@ returns-3 c = search needs
 pub sees-spec : {M : Type 1} → statement M
 sees-spec =
     tie.close
-    (tie.spec returns sub-t10 cast-t12 is-at-requires returns-2 is-at-requires-2 returns-3)
+    (tie.spec returns sub-t9 cast-t11 is-at-requires returns-2 is-at-requires-2 returns-3)

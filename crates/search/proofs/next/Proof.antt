@@ -80,7 +80,7 @@ tested-requires : tie.Need-tested-requires Inv-loop μ-loop
 tested-requires c κs =
     let z = c .before .before .before .before .before .before .before .before .before .before .before .before .before .before in
     let h = z .pre .1 .0 in
-    record { close = h .close; counted = h .counted; few = h .few; indexed = h .indexed; parted = z .pre .1 .1 }
+    rw (h .counted) (record { close = h .close; counted = h .counted; few = h .few; indexed = h .indexed; parted = z .pre .1 .1 })
 
 returns : tie.Need-returns Inv-loop μ-loop
 returns c =

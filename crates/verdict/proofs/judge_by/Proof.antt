@@ -1,5 +1,6 @@
 -- `verdict::judge_by` meets its contract. Assumes nothing.
 use mathlib.Core.Path.{sym, _∙_}
+use native.Mathlib.Omega.{arith}
 use borrow.Author.Tests.{not-true, not-false}
 use Rattle.cells.specs.Cells.{firstFailing}
 use Rattle.verdict.proofs.Tables.{tuple-is, edges-is, faces-is, sound-is, last-is}
@@ -59,20 +60,25 @@ returns-4 c = λ t w e.
       sym (c .before .is-sound .ensures ∙ sound-is (s .args .coords .now) (s .args .labels .now) (s .args .parts .now) (s .args .c .now) w) ∙ not-true _ (c .if4 .taken),
     ))
 
-judge-tets-requires : tie.Need-judge-tets-requires
-judge-tets-requires c κs = search needs
+find-requires : tie.Need-find-requires
+find-requires c κs = search needs
+
+judge-found-requires : tie.Need-judge-found-requires
+judge-found-requires c κs =
+    let s = c .before .before .before .before .before .before .before .before .before .before .before .before .before .before .before .before .before .before .before in
+    (c .find .ensures, ((omega (arith, s .pre .0 .indexed .labelled .few), s .pre .0 .parted), s .pre .1))
 
 returns-5 : tie.Need-returns-5
 unfolding firstFailing
 returns-5 c = λ t w e.
-    let s = c .before .before .before .before .before .before .before .before .before .before .before .before .before .before .before .before .before .before .before in
-    c .judge-tets .ensures ∙ last-is (s .args .coords .now) (s .args .labels .now) (s .args .parts .now) (s .args .c .now) w ∙
+    let s = c .before .before .before .before .before .before .before .before .before .before .before .before .before .before .before .before .before .before .before .before in
+    c .judge-found .ensures ∙ last-is (s .args .coords .now) (s .args .labels .now) (s .args .parts .now) (s .args .c .now) w ∙
     sym
     (rw (
-      sym (c .before .before .before .before .before .before .before .before .is-tuple .ensures ∙ tuple-is (s .args .coords .now) (s .args .labels .now) (s .args .parts .now) (s .args .c .now) w) ∙ not-false _ (c .before .before .before .before .before .before .before .if1 .left),
-      sym (c .before .before .before .before .before .before .has-edges .ensures ∙ edges-is (s .args .coords .now) (s .args .labels .now) (s .args .parts .now) (s .args .c .now) w e) ∙ not-false _ (c .before .before .before .before .before .if2 .left),
-      sym (c .before .before .before .before .has-faces .ensures ∙ faces-is (s .args .coords .now) (s .args .labels .now) (s .args .parts .now) (s .args .c .now) w) ∙ not-false _ (c .before .before .before .if3 .left),
-      sym (c .before .before .is-sound .ensures ∙ sound-is (s .args .coords .now) (s .args .labels .now) (s .args .parts .now) (s .args .c .now) w) ∙ not-false _ (c .before .if4 .left),
+      sym (c .before .before .before .before .before .before .before .before .before .is-tuple .ensures ∙ tuple-is (s .args .coords .now) (s .args .labels .now) (s .args .parts .now) (s .args .c .now) w) ∙ not-false _ (c .before .before .before .before .before .before .before .before .if1 .left),
+      sym (c .before .before .before .before .before .before .before .has-edges .ensures ∙ edges-is (s .args .coords .now) (s .args .labels .now) (s .args .parts .now) (s .args .c .now) w e) ∙ not-false _ (c .before .before .before .before .before .before .if2 .left),
+      sym (c .before .before .before .before .before .has-faces .ensures ∙ faces-is (s .args .coords .now) (s .args .labels .now) (s .args .parts .now) (s .args .c .now) w) ∙ not-false _ (c .before .before .before .before .if3 .left),
+      sym (c .before .before .before .is-sound .ensures ∙ sound-is (s .args .coords .now) (s .args .labels .now) (s .args .parts .now) (s .args .c .now) w) ∙ not-false _ (c .before .before .if4 .left),
     ))
 
 pub judge-by-spec : {M : Type 1} → statement M
@@ -87,5 +93,6 @@ judge-by-spec =
     returns-3
     is-sound-requires
     returns-4
-    judge-tets-requires
+    find-requires
+    judge-found-requires
     returns-5)
