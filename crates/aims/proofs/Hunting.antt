@@ -9,10 +9,10 @@ use native.Mathlib.Omega.{arith}
 use native.Mathlib.Decide.{decLt}
 use borrow.Author.Tests.{not-true}
 use lib.IntN.{ℤ}
-use lib.ListN.{set}
 use Rattle.reaching.specs.declared.Edge.{Edge}
 use Rattle.reaching.specs.Reaching.{Closes, Least}
-use Rattle.levels.specs.Fits.{fits}
+use Rattle.levels.specs.declared.Place.{Place}
+use Rattle.levels.specs.Fits.{fitsWith}
 use Rattle.aims.specs.Aims.{edgeAt, Follows, LinksFirst, Aims, Fit, Goes, Stops}
 
 -- ── what links the first three ──
@@ -103,21 +103,19 @@ hunt-less {asked} {n} {v} {r} b h l = elim (decLt r n) [ yes i ↦ omega (arith,
 
 -- ── one vertex ──
 
-module _ (zs : List ℤ) (ms : List ℕ) (x d : ℕ) (t : List ℕ) where
-  pub stops-fit : {n v : ℕ} {r : Bool} → r ≡ fits zs ms x d (set t d v) → Stops (Fit zs ms x d t) n v r
-  stops-fit {n} {v} {r} e = record { none = λ f h g. true≢false (sym (e ∙ g) ∙ f) }
+pub stops-fit : (zs : List ℤ) (ms : List ℕ) (place : Place) {n v : ℕ} {r : Bool} → r ≡ fitsWith zs ms place v → Stops (Fit zs ms place) n v r
+stops-fit zs ms place e = record { none = λ f h g. true≢false (sym (e ∙ g) ∙ f) }
 
-  pub stops-goes : {table : List ℕ} {n v : ℕ} {r : Bool} → Stops (Fit zs ms x d t) n v r → Stops (Goes zs n table ms x d t) n v r
-  stops-goes s = record { none = λ f h g. s .none f h (g .fit) }
+pub stops-goes : (zs : List ℤ) (ms : List ℕ) (place : Place) {table : List ℕ} {n v : ℕ} {r : Bool} → Stops (Fit zs ms place) n v r → Stops (Goes zs n table ms place) n v r
+stops-goes zs ms place s = record { none = λ f h g. s .none f h (g .fit) }
 
-module _ {zs : List ℤ} {n : ℕ} {table ms : List ℕ} {x d : ℕ} {t : List ℕ} where
-  module _ {some both : Bool} {o p : ℕ} (q : Aims (LinksFirst n table ms t) x some both o p) where
-    pub goes-follows : (v : ℕ) → Goes zs n table ms x d t v → Follows n table ms t x o p both v
-    goes-follows v g = g .follows some both o p q .1
+module _ {zs : List ℤ} {n : ℕ} {table ms : List ℕ} {place : Place} {some both : Bool} {o p : ℕ} (q : Aims (LinksFirst n table ms (place .tuple)) (place .row) some both o p) where
+  pub goes-follows : (v : ℕ) → Goes zs n table ms place v → Follows n table ms (place .tuple) (place .row) o p both v
+  goes-follows v g = g .follows some both o p q .1
 
-    pub hunt-none : {lo : ℕ} → not some ≡ true → Least (Goes zs n table ms x d t) lo n n
-    hunt-none e = record {
-      most = omega arith;
-      low = λ g. absurd (let z : ⊥ = omega arith in z);
-      least = λ v g h. absurd (true≢false (sym (g .follows some both o p q .0) ∙ not-true some e));
-    }
+  pub hunt-none : {lo : ℕ} → not some ≡ true → Least (Goes zs n table ms place) lo n n
+  hunt-none e = record {
+    most = omega arith;
+    low = λ g. absurd (let z : ⊥ = omega arith in z);
+    least = λ v g h. absurd (true≢false (sym (g .follows some both o p q .0) ∙ not-true some e));
+  }

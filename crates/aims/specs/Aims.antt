@@ -7,12 +7,13 @@ use mathlib.Core.Bool.{Bool, true, false, cond}
 use mathlib.Core.List.{List, [], _∷_}
 use lib.Dec.{ltb}
 use lib.IntN.{ℤ}
-use lib.ListN.{getD, set}
+use lib.ListN.{getD}
 use Rattle.space.specs.declared.Vertex.{Vertex}
 use Rattle.reaching.specs.declared.Edge.{Edge}
 use Rattle.reaching.specs.Reaching.{Closes, Links}
 use Rattle.levels.specs.Levels.{look}
-use Rattle.levels.specs.Fits.{fits}
+use Rattle.levels.specs.declared.Place.{Place}
+use Rattle.levels.specs.Fits.{fitsWith}
 
 -- what the corners but the first are not below: the kinds 8 and 6 have the rows before 14, and their first corner is the least
 abbrev pub floorOf : List ℕ → ℕ → ℕ
@@ -49,14 +50,14 @@ pub record Aims (first : ℕ → Type 0) (x : ℕ) (some both : Bool) (o p : ℕ
   pub each : both ≡ true → (o ≡ p) × ((p ≡ 65535) ⊎ ((x ≡ 16) ⊎ ((x ≡ 3) × ((y : ℕ) → first y → y ≡ p))))
   pub either : both ≡ false → ((x ≡ 3) ⊎ (x ≡ 11)) × ((o ≡ p) ⊎ ((x ≡ 3) × ((y : ℕ) → first y → (y ≡ o) ⊎ (y ≡ p))))
 
--- the tuple passes the test of the level with v at place d
-abbrev pub Fit : List ℤ → List ℕ → ℕ → ℕ → List ℕ → ℕ → Type 0
-Fit zs ms x d t v = fits zs ms x d (set t d v) ≡ true
+-- the tuple passes the test of the place with v there
+abbrev pub Fit : List ℤ → List ℕ → Place → ℕ → Type 0
+Fit zs ms place v = fitsWith zs ms place v ≡ true
 
 -- and v follows by whatever aim is known
-pub record Goes (zs : List ℤ) (n : ℕ) (table ms : List ℕ) (x d : ℕ) (t : List ℕ) (v : ℕ) : Type 0 where
-  pub fit : Fit zs ms x d t v
-  pub follows : (some both : Bool) (o p : ℕ) → Aims (LinksFirst n table ms t) x some both o p → (some ≡ true) × Follows n table ms t x o p both v
+pub record Goes (zs : List ℤ) (n : ℕ) (table ms : List ℕ) (place : Place) (v : ℕ) : Type 0 where
+  pub fit : Fit zs ms place v
+  pub follows : (some both : Bool) (o p : ℕ) → Aims (LinksFirst n table ms (place .tuple)) (place .row) some both o p → (some ≡ true) × Follows n table ms (place .tuple) (place .row) o p both v
 
 -- where r is false, v is not one of n vertices that is asked for
 pub record Stops (asked : ℕ → Type 0) (n v : ℕ) (r : Bool) : Type 0 where

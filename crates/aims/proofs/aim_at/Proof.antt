@@ -40,8 +40,8 @@ sole-requires c κs = search needs
 
 aim-by-requires : tie.Need-aim-by-requires
 aim-by-requires c κs =
-    let z = c .before .before .before .before .before in
-    let which : (z .args .x ≡ 3) ⊎ (z .args .x ≡ 11) = ⊎-elim (λ w. inr (omega arith)) (λ w. inl (omega arith)) (c .before .before .if1 .came) in
+    let z = c .before .before .before .before .before .before in
+    let which : (z .args .place .row ≡ 3) ⊎ (z .args .place .row ≡ 11) = ⊎-elim (λ w. inr (omega arith)) (λ w. inl (omega arith)) (c .before .before .if1 .came) in
     (z .pre .rowed, which)
 
 returns-3 : tie.Need-returns-3

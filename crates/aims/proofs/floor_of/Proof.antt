@@ -15,10 +15,10 @@ add-result : tie.Need-add-result
 add-result c = search needs
 
 returns : tie.Need-returns
-returns c = let z = c .before .before in rw (lt-ltb (z .args .x) 14 (omega arith), c .wide .ensures .0)
+returns c = let z = c .before .before .before .before in rw (lt-ltb (z .args .place .row) 14 (omega arith), c .wide .ensures .0)
 
 returns-2 : tie.Need-returns-2
-returns-2 c = let z = c .before in rw (le-ltb (z .args .x) 14 (omega arith))
+returns-2 c = let z = c .before .before .before in rw (le-ltb (z .args .place .row) 14 (omega arith))
 
 pub floor-of-spec : {M : Type 1} → statement M
 floor-of-spec = tie.close (tie.spec array-read-wide wide-requires add-result returns returns-2)

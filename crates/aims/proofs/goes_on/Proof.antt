@@ -7,14 +7,14 @@ use Rattle.aims.proofs.goes_on.Tie as tie
 returns : tie.Need-returns
 returns c = search needs
 
-cast-t10 : tie.Need-cast-t10
-cast-t10 c = search needs
+cast-t8 : tie.Need-cast-t8
+cast-t8 c = search needs
 
 tries-requires : tie.Need-tries-requires
 tries-requires c κs = search needs
 
 returns-2 : tie.Need-returns-2
-returns-2 c = let a = c .before .before .before .before .args in stops-fit (a .coords .now) (a .marks .now) (a .x) (a .d) (a .t) (c .tries .ensures)
+returns-2 c = let a = c .before .before .before .before .args in stops-fit (a .coords .now) (a .marks .now) (a .place) (c .tries .ensures)
 
 pub goes-on-spec : {M : Type 1} → statement M
-goes-on-spec = tie.close (tie.spec returns cast-t10 tries-requires returns-2)
+goes-on-spec = tie.close (tie.spec returns cast-t8 tries-requires returns-2)
