@@ -20,7 +20,8 @@ use Rattle.levels.proofs.Right.{right-at}
 use Rattle.levels.proofs.Following.{followsAny, follows-below, ahead-at, row-three}
 use Rattle.reaching.specs.Reaching.{Closes, Least}
 use Rattle.candidates.specs.Met.{Raised}
-use Rattle.aims.specs.Aims.{edgeAt, Follows, LinksFirst, Aims, Goes}
+use Rattle.aims.specs.Aims.{LinksFirst, Aims}
+use Rattle.hunting.specs.Goes.{edgeAt, Follows, Goes}
 use Rattle.listed.proofs.Prune.{passes}
 use Rattle.listed.proofs.Above.{leaf-above}
 use Rattle.listed.proofs.Ahead.{leaf-aims}

@@ -1,13 +1,13 @@
 // The search for the next cell of a kind: the least tuple after a tuple that is a cell in least form, by an odometer over one tuple with a level.
 // x is the row of a place in the tables of the levels.
-use aims::hunt;
-use aims::looks_ahead;
 use candidates::Rows;
 use candidates::meet_rows;
 use candidates::nearer;
 use candidates::partner;
 use candidates::rise;
 use filling::Tets;
+use hunting::hunt;
+use hunting::looks_ahead;
 use levels::Place;
 use levels::also_of;
 use levels::joined_of;

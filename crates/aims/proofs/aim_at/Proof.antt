@@ -4,7 +4,7 @@ use mathlib.Core.Logic.{_⊎_, inl, inr, ⊎-elim}
 use mathlib.Core.Bool.{true≢false}
 use native.Mathlib.Omega.{arith}
 use borrow.Author.Needs.{needs}
-use Rattle.aims.proofs.Hunting.{aims-of}
+use Rattle.aims.proofs.Aiming.{aims-of}
 use Rattle.aims.proofs.aim_at.Statement.{statement}
 use Rattle.aims.proofs.aim_at.Tie as tie
 

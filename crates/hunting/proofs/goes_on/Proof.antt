@@ -1,8 +1,8 @@
--- `aims::goes_on` meets its contract. Assumes nothing.
-use Rattle.aims.proofs.Hunting.{stops-fit}
+-- `hunting::goes_on` meets its contract. Assumes nothing.
+use Rattle.hunting.proofs.Leaping.{stops-fit}
 use borrow.Author.Needs.{needs}
-use Rattle.aims.proofs.goes_on.Statement.{statement}
-use Rattle.aims.proofs.goes_on.Tie as tie
+use Rattle.hunting.proofs.goes_on.Statement.{statement}
+use Rattle.hunting.proofs.goes_on.Tie as tie
 
 returns : tie.Need-returns
 returns c = search needs

@@ -2,7 +2,7 @@
 -- Assumes nothing.
 use Prim.Native.Nat.{ℕ, _+_, _-_, _<_, _≤_}
 use mathlib.Core.Path.{_≡_, sym, _∙_, subst}
-use mathlib.Core.Logic.{inl, inr, ⊎-elim}
+use mathlib.Core.Logic.{⊎-elim}
 use mathlib.Core.Bool.{Bool, true, false, not, true≢false}
 use mathlib.Core.List.{List}
 use native.Mathlib.Omega.{arith}
@@ -13,16 +13,8 @@ use Rattle.reaching.specs.declared.Edge.{Edge}
 use Rattle.reaching.specs.Reaching.{Closes, Least}
 use Rattle.levels.specs.declared.Place.{Place}
 use Rattle.levels.specs.Fits.{fitsWith}
-use Rattle.aims.specs.Aims.{edgeAt, Follows, LinksFirst, Aims, Fit, Goes, Stops}
-
--- ── what links the first three ──
-
-pub aims-of : {P Q : ℕ → Type 0} {x : ℕ} {some both : Bool} {o p : ℕ} → ((y : ℕ) → P y → Q y) → Aims Q x some both o p → Aims P x some both o p
-aims-of f a = record {
-  none = λ e. let n = a .none e in (n .0, λ y p. n .1 y (f y p));
-  each = λ e. let n = a .each e in (n .0, ⊎-elim inl (λ m. inr (⊎-elim inl (λ k. inr (k .0, λ y p. k .1 y (f y p))) m)) (n .1));
-  either = λ e. let n = a .either e in (n .0, ⊎-elim inl (λ k. inr (k .0, λ y p. k .1 y (f y p))) (n .1));
-}
+use Rattle.aims.specs.Aims.{LinksFirst, Aims}
+use Rattle.hunting.specs.Goes.{edgeAt, Follows, Fit, Goes, Stops}
 
 -- ── a leap ──
 

@@ -1,9 +1,9 @@
--- `aims::floor_of` meets its contract. Assumes nothing.
+-- `hunting::floor_of` meets its contract. Assumes nothing.
 use native.Mathlib.Omega.{arith}
 use borrow.Author.Tests.{lt-ltb, le-ltb}
 use borrow.Author.Needs.{needs}
-use Rattle.aims.proofs.floor_of.Statement.{statement}
-use Rattle.aims.proofs.floor_of.Tie as tie
+use Rattle.hunting.proofs.floor_of.Statement.{statement}
+use Rattle.hunting.proofs.floor_of.Tie as tie
 
 array-read-wide : tie.Need-array-read-wide
 array-read-wide c = search needs

@@ -1,10 +1,10 @@
--- `aims::hunt` meets its contract. Assumes nothing.
+-- `hunting::hunt` meets its contract. Assumes nothing.
 use Prim.Native.Nat.{_-_}
 use native.Mathlib.Omega.{arith}
-use Rattle.aims.specs.Aims.{Goes}
-use Rattle.aims.proofs.Hunting.{Passed, passed-none, passed-next, hunted, hunted-none, hunt-less, hunt-none, goes-follows, stops-goes}
-use Rattle.aims.proofs.hunt.Statement.{statement}
-use Rattle.aims.proofs.hunt.Tie as tie
+use Rattle.hunting.specs.Goes.{Goes}
+use Rattle.hunting.proofs.Leaping.{Passed, passed-none, passed-next, hunted, hunted-none, hunt-less, hunt-none, goes-follows, stops-goes}
+use Rattle.hunting.proofs.hunt.Statement.{statement}
+use Rattle.hunting.proofs.hunt.Tie as tie
 
 abbrev Inv-loop : tie.InvT-loop
 Inv-loop tables coords n table marks place lo aim v₀ v = Passed (Goes coords n table marks place) n lo v
