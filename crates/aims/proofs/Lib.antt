@@ -1,1 +1,1 @@
-pub mod Hunting
+pub mod Aiming

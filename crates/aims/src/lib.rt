@@ -1,56 +1,31 @@
-// The look-ahead's aims: at a place whose joined corners have many neighbours, which vertices can follow there is told by the faces to come.
-// A tuple is kept in search order; x is the row of a place in the tables of the levels.
-use levels::look_of;
-use levels::tries;
+// The look-ahead's aim at a place: which vertices cannot link the faces to come, by what links the first three corners of the tuple.
+// x is the row of a place in the tables of the levels.
+use levels::Place;
+use levels::wide;
 use linking::Linking;
 use linking::fuller;
 use linking::fullest;
 use linking::sole;
 use neighbours::row_of;
 use reaching::Edge;
-use reaching::beyond;
-use reaching::fewer;
-use reaching::lower;
 use space::Vertex;
 ghost use mathlib.Core.Path.{_≡_};
 ghost use mathlib.Core.Logic.{_⊎_};
-ghost use mathlib.Core.Bool.{true, false};
-ghost use Prim.Native.Nat.{_<_, _≤_};
-ghost use lib.Dec.{eqb};
-ghost use lib.ListN.{length};
-ghost use Rattle.space.specs.Arrays.{Close};
-ghost use Rattle.marks.specs.Marks.{places};
 ghost use Rattle.neighbours.specs.Reading.{Rowed};
-ghost use Rattle.reaching.specs.Reaching.{Lent, Least};
+ghost use Rattle.reaching.specs.Reaching.{Lent};
 ghost use Rattle.linking.specs.Covers.{Covers};
-ghost use Rattle.levels.specs.Levels.{look, levels};
-ghost use Rattle.aims.specs.Aims.{floorOf, edgeAt, Follows, LinksFirst, Aims, Fit, Goes, Stops};
+ghost use Rattle.aims.specs.Aims.{LinksFirst, Aims};
 
-// A place looks ahead where its rows are longer than this. That is a matter of speed alone.
-const HUB: usize = 24;
-
-fn wide(x: u16) -> usize
-    ensures { λ r. ⌜ (r ≡ x) × (r < 65536) ⌝ }
-{
-    x as usize
-}
-
-// ---- the aim at a place
-
-// The corners of the kinds 8 and 6 are all above the first one.
-fn floor_of(t: [u16; 8], x: usize) -> usize
-    ensures { λ r. ⌜ r ≡ floorOf t x ⌝ }
-{
-    if x < 14 { wide(t[0]) + 1 } else { 0 }
-}
+// A vertex with more neighbours than this is barred, and a place looks ahead where its rows are longer. That is a matter of speed alone.
+pub const HUB: usize = 24;
 
 // What the look-ahead at a place goes by: whether any cell goes on, whether both pairs of the row are asked for, and two vertices that may not link
 // them, which may be one.
-struct Aim {
-    some: bool,
-    both: bool,
-    o: u16,
-    p: u16,
+pub struct Aim {
+    pub some: bool,
+    pub both: bool,
+    pub o: u16,
+    pub p: u16,
 }
 
 // By the vertices q that link the first three corners. One with many neighbours is barred: it may link both side faces only if it is place 3 itself.
@@ -118,10 +93,12 @@ fn aim_by(n: usize, table: &[u16], x: usize, q: Linking) -> Aim
 }
 
 // At row 16 any vertex may be barred: the apex links the first three corners, and so does another corner.
-fn aim_at(n: usize, table: &[u16], marks: &[u8], t: [u16; 8], x: usize) -> Aim
+pub fn aim_at(n: usize, table: &[u16], marks: &[u8], place: Place) -> Aim
     requires { ⌜ Lent n (now table) (now marks) ⌝ }
-    ensures { λ r. ⌜ Aims (LinksFirst n (now (table .entry)) (now (marks .entry)) t) x (r .some) (r .both) (r .o) (r .p) ⌝ }
+    ensures { λ r. ⌜ Aims (LinksFirst n (now (table .entry)) (now (marks .entry)) (place .tuple)) (place .row) (r .some) (r .both) (r .o) (r .p) ⌝ }
 {
+    let t = place.tuple;
+    let x = place.row;
     let a = Vertex(t[0]);
     let b = Vertex(t[1]);
     if x != 3 {
@@ -148,179 +125,4 @@ fn aim_at(n: usize, table: &[u16], marks: &[u8], t: [u16; 8], x: usize) -> Aim
     };
     let q = sole(n, table, marks, e, Vertex(t[2]));
     aim_by(n, table, x, q)
-}
-
-// ---- by the aim
-
-// The edge at the entries i and i + 1 of row x. What may not link it and the next corner is o, p and the place at entry i + 2.
-fn edge_at(tables: &[u8], t: [u16; 8], x: usize, i: usize, o: Vertex, p: Vertex) -> Edge
-    requires { ⌜ now tables ≡ levels ⌝ }
-    requires { ⌜ (x < 19) × (i < 4) ⌝ }
-    ensures { λ r. ⌜ r ≡ edgeAt t x i (o .0) (p .0) ⌝ }
-{
-    let u = t[look_of(tables, x, i)];
-    let w = t[look_of(tables, x, i + 1)];
-    let q = t[look_of(tables, x, i + 2)];
-    Edge {
-        u: Vertex(u),
-        w: Vertex(w),
-        floor: floor_of(t, x),
-        o,
-        p,
-        q: Vertex(q),
-    }
-}
-
-// Whether the second pair of row x is the first again.
-fn is_twice(tables: &[u8], x: usize) -> bool
-    requires { ⌜ now tables ≡ levels ⌝ }
-    requires { ⌜ x < 19 ⌝ }
-{
-    if look_of(tables, x, 0) == look_of(tables, x, 3) {
-        look_of(tables, x, 1) == look_of(tables, x, 4)
-    } else {
-        false
-    }
-}
-
-// The least vertex from lo on that can follow by the aim, or n; where both pairs are asked for, one that follows the second alone may come before it.
-fn leap(
-    tables: &[u8],
-    n: usize,
-    table: &[u16],
-    marks: &[u8],
-    t: [u16; 8],
-    x: usize,
-    aim: Aim,
-    lo: usize,
-) -> usize
-    requires { ⌜ now tables ≡ levels ⌝ }
-    requires { ⌜ Lent n (now table) (now marks) × (lo ≤ n) ⌝ }
-    requires { ⌜ x < 19 ⌝ }
-    ensures { λ r. ⌜ Least (Follows n (now (table .entry)) (now (marks .entry)) t x (aim .o) (aim .p) (aim .both)) lo n r ⌝ }
-{
-    let o = Vertex(aim.o);
-    let p = Vertex(aim.p);
-    let one = edge_at(tables, t, x, 0, o, p);
-    let v = beyond(n, table, marks, one, lo);
-    if aim.both {
-        if is_twice(tables, x) {
-            return v;
-        }
-        let two = edge_at(tables, t, x, 3, o, p);
-        return beyond(n, table, marks, two, v);
-    }
-    let two = edge_at(tables, t, x, 3, o, p);
-    let r = beyond(n, table, marks, two, lo);
-    let b = if v < r { v } else { r };
-    lower(o, lo, lower(p, lo, b))
-}
-
-// The tuple goes on with v at place d: where this is false, no cell does.
-fn goes_on(
-    tables: &[u8],
-    coords: &[i64],
-    marks: &[u8],
-    n: usize,
-    t: [u16; 8],
-    x: usize,
-    d: usize,
-    v: usize,
-) -> bool
-    requires { ⌜ now tables ≡ levels ⌝ }
-    requires { ⌜ Close (now coords) × ((length (now marks) ≡ places) × (n ≤ 512)) ⌝ }
-    requires { ⌜ (x < 19) × (d < 8) ⌝ }
-    ensures { λ r. ⌜ Stops (Fit (now (coords .entry)) (now (marks .entry)) x d t) n v r ⌝ }
-{
-    if n <= v {
-        return false;
-    }
-    tries(tables, coords, marks, t, x, d, Vertex(v as u16))
-}
-
-// A vertex from lo on with which the tuple goes on at place d, or n. No cell is left out before it.
-pub fn hunt(
-    tables: &[u8],
-    coords: &[i64],
-    n: usize,
-    table: &[u16],
-    marks: &[u8],
-    t: [u16; 8],
-    x: usize,
-    d: usize,
-    lo: usize,
-) -> usize
-    requires { ⌜ now tables ≡ levels ⌝ }
-    requires { ⌜ Close (now coords) × Lent n (now table) (now marks) ⌝ }
-    requires { ⌜ (x < 19) × (d < 8) ⌝ }
-    ensures { λ r. ⌜ Least (Goes (now (coords .entry)) n (now (table .entry)) (now (marks .entry)) x d t) lo n r ⌝ }
-{
-    let aim = aim_at(n, table, marks, t, x);
-    if !aim.some {
-        return n;
-    }
-    let mut v = lo;
-    while v < n {
-        let r = leap(tables, n, table, marks, t, x, aim, v);
-        if goes_on(tables, coords, marks, n, t, x, d, r) {
-            return r;
-        }
-        v = r + 1;
-    }
-    n
-}
-
-// ---- where to look ahead
-
-// Row x has a pair of places, and the joined corners have many neighbours: the shorter row of theirs has this size.
-fn is_hub(tables: &[u8], x: usize, size: usize) -> bool
-    requires { ⌜ now tables ≡ levels ⌝ }
-    requires { ⌜ x < 19 ⌝ }
-    ensures { λ r. ⌜ (r ≡ true → eqb (look x 0) (look x 1) ≡ false) ⌝ }
-{
-    if look_of(tables, x, 0) == look_of(tables, x, 1) {
-        return false;
-    }
-    HUB < size
-}
-
-// How many neighbours the one with fewer has of the pair at the entries i and i + 1 of row x.
-fn pair_size(tables: &[u8], n: usize, table: &[u16], t: [u16; 8], x: usize, i: usize) -> usize
-    requires { ⌜ (now tables ≡ levels) × (Rowed n (now table) × ((x < 19) × (i < 5))) ⌝ }
-{
-    let u = t[look_of(tables, x, i)];
-    let w = t[look_of(tables, x, i + 1)];
-    let r = row_of(n, table, Vertex(u));
-    let q = row_of(n, table, Vertex(w));
-    let one = fewer(r, q);
-    one.size
-}
-
-// Whether looking ahead pays where a row of this size would be gone through: a pair of row x has few neighbours beside it.
-fn is_far(tables: &[u8], n: usize, table: &[u16], t: [u16; 8], x: usize, size: usize) -> bool
-    requires { ⌜ (now tables ≡ levels) × (Rowed n (now table) × (x < 19)) ⌝ }
-{
-    let most = size / 4;
-    if pair_size(tables, n, table, t, x, 0) <= most {
-        return true;
-    }
-    pair_size(tables, n, table, t, x, 3) <= most
-}
-
-// Whether to look ahead at row x, where a row of this size would be gone through.
-pub fn looks_ahead(
-    tables: &[u8],
-    n: usize,
-    table: &[u16],
-    t: [u16; 8],
-    x: usize,
-    size: usize,
-) -> bool
-    requires { ⌜ (now tables ≡ levels) × (Rowed n (now table) × (x < 19)) ⌝ }
-    ensures { λ r. ⌜ (r ≡ true → eqb (look x 0) (look x 1) ≡ false) ⌝ }
-{
-    if is_hub(tables, x, size) {
-        return is_far(tables, n, table, t, x, size);
-    }
-    false
 }

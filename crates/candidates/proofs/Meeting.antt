@@ -78,8 +78,8 @@ module _ {ok : ℕ → Bool} {one two : List ℕ} {lo : ℕ} where
   }
 
   module _ {i j : ℕ} (a : Onward ok one two lo i j) where
-    pub met-none : (length one ≤ i) ⊎ (length two ≤ j) → (n : ℕ) → Met ok one two n lo n
-    met-none h n = record {
+    pub met-none : (length one ≤ i) ⊎ (length two ≤ j) → Met ok one two lo 65536
+    met-none h = record {
       low = λ z. absurd (let o : ⊥ = omega arith in o);
       least = λ p q b c e l f. absurd (⊎-elim (λ z. let o : ⊥ = omega (arith, a .first p q b c e l f) in o) (λ z. let o : ⊥ = omega (arith, a .second p q b c e l f) in o) h);
     }
@@ -119,8 +119,8 @@ module _ {ok : ℕ → Bool} {one two : List ℕ} {lo : ℕ} where
             below : (getD two j 0 < getD one i 0 → ⊥) → getD one i 0 ≤ getD two j 0
             below z = elim (decLt (getD two j 0) (getD one i 0)) [ yes y ↦ absurd (z y) | no y ↦ omega arith ]
 
-        pub met-here : i < length one → (n : ℕ) {v : ℕ} → v ≡ getD one i 0 → r ≡ true → Met ok one two n lo v
-        met-here h n {v} q z = record {
+        pub met-here : i < length one → {v : ℕ} → v ≡ getD one i 0 → r ≡ true → Met ok one two lo v
+        met-here h {v} q z = record {
           low = λ g. omega (arith, q, a .after i (omega arith) h);
           least = λ p k b c y l f. omega (arith, q, rises-from one rise1 i p (a .first p k b c y l f) b);
         }

@@ -30,7 +30,7 @@ pub record Served (table : List ℕ) (r : Row) : Type 0 where
   pub inside : r .from + r .size ≤ length table
   pub rises : Rises (entriesOf table r)
 
--- r is n, or a number from lo on, and no number from lo on that stands in both rows and passes is less
-pub record Met (ok : ℕ → Bool) (one two : List ℕ) (n lo r : ℕ) : Type 0 where
-  pub low : r < n → lo ≤ r
+-- r is above all vertices, or a number from lo on, and no number from lo on that stands in both rows and passes is less
+pub record Met (ok : ℕ → Bool) (one two : List ℕ) (lo r : ℕ) : Type 0 where
+  pub low : r < 65536 → lo ≤ r
   pub least : (p q : ℕ) → p < length one → q < length two → getD one p 0 ≡ getD two q 0 → lo ≤ getD one p 0 → ok (getD one p 0) ≡ true → r ≤ getD one p 0

@@ -1,9 +1,11 @@
 // The next candidate at a place: the first vertex that stands in the rows of two corners joined to it and with which the tuple passes there.
-// A tuple is kept in search order; x is the row of a place in the tables of the levels.
+// x is the row of a place in the tables of the levels.
+use levels::Place;
 use levels::also_of;
 use levels::lesser_of;
 use levels::third_of;
 use levels::tries;
+use levels::wide;
 use neighbours::Row;
 use reaching::fewer;
 use space::Vertex;
@@ -12,45 +14,39 @@ ghost use mathlib.Core.Logic.{_⊎_};
 ghost use mathlib.Core.Bool.{_&&_};
 ghost use Prim.Native.Nat.{_<_};
 ghost use lib.Dec.{eqb};
-ghost use lib.ListN.{length, set};
+ghost use lib.ListN.{length};
 ghost use Rattle.space.specs.Arrays.{Close};
 ghost use Rattle.marks.specs.Marks.{places};
 ghost use Rattle.neighbours.specs.Reading.{entriesOf};
 ghost use Rattle.levels.specs.Levels.{levels};
-ghost use Rattle.levels.specs.Fits.{fits};
+ghost use Rattle.levels.specs.Fits.{Placed, fitsWith};
 ghost use Rattle.candidates.specs.Met.{Rises, Entered, Raised, Served, Met};
 
 // A row longer than this is not gone through beside another. That is a matter of speed alone.
 const LONG: usize = 96;
 
-fn wide(x: u16) -> usize
-    ensures { λ r. ⌜ (r ≡ x) × (r < 65536) ⌝ }
-{
-    x as usize
+// No vertex: above all of them.
+const NONE: usize = 65536;
+
+// Two rows that have every vertex which can come at a place.
+pub struct Rows {
+    pub one: Row,
+    pub two: Row,
 }
 
 // ---- what stands in two rows
 
 // The two are one vertex with which the tuple passes.
-fn agree(
-    tables: &[u8],
-    coords: &[i64],
-    marks: &[u8],
-    t: [u16; 8],
-    x: usize,
-    d: usize,
-    v: Vertex,
-    w: Vertex,
-) -> bool
+fn agree(tables: &[u8], coords: &[i64], marks: &[u8], place: Place, v: Vertex, w: Vertex) -> bool
     requires { ⌜ now tables ≡ levels ⌝ }
     requires { ⌜ Close (now coords) × (length (now marks) ≡ places) ⌝ }
-    requires { ⌜ (x < 19) × (d < 8) ⌝ }
-    ensures { λ r. ⌜ r ≡ (eqb (v .0) (w .0) && fits (now (coords .entry)) (now (marks .entry)) x d (set t d (v .0))) ⌝ }
+    requires { ⌜ Placed place ⌝ }
+    ensures { λ r. ⌜ r ≡ (eqb (v .0) (w .0) && fitsWith (now (coords .entry)) (now (marks .entry)) place (v .0)) ⌝ }
 {
     if v.0 != w.0 {
         return false;
     }
-    tries(tables, coords, marks, t, x, d, v)
+    tries(tables, coords, marks, place, v)
 }
 
 // Where the entries from lo on begin in a row, by halving.
@@ -71,41 +67,38 @@ fn enter(row: &[u16], lo: usize) -> usize
     low
 }
 
-// The first vertex from lo on that stands in both rows and with which the tuple passes, or n.
+// The first vertex from lo on that stands in both rows and with which the tuple passes, or none.
 fn meet(
     tables: &[u8],
     coords: &[i64],
     marks: &[u8],
-    n: usize,
     one: &[u16],
     two: &[u16],
-    t: [u16; 8],
-    x: usize,
-    d: usize,
+    place: Place,
     lo: usize,
 ) -> usize
     requires { ⌜ now tables ≡ levels ⌝ }
     requires { ⌜ Close (now coords) × (length (now marks) ≡ places) ⌝ }
-    requires { ⌜ ((x < 19) × (d < 8)) × (Rises (now one) × Rises (now two)) ⌝ }
-    ensures { λ r. ⌜ Met (λ v. fits (now (coords .entry)) (now (marks .entry)) x d (set t d v)) (now (one .entry)) (now (two .entry)) n lo r ⌝ }
+    requires { ⌜ Placed place × (Rises (now one) × Rises (now two)) ⌝ }
+    ensures { λ r. ⌜ Met (fitsWith (now (coords .entry)) (now (marks .entry)) place) (now (one .entry)) (now (two .entry)) lo r ⌝ }
 {
     let mut i = enter(one, lo);
     let mut j = enter(two, lo);
     while i < one.len() {
         if two.len() <= j {
-            return n;
+            return NONE;
         }
         let v = one[i];
         let w = two[j];
         if w < v {
             j += 1;
-        } else if agree(tables, coords, marks, t, x, d, Vertex(v), Vertex(w)) {
+        } else if agree(tables, coords, marks, place, Vertex(v), Vertex(w)) {
             return wide(v);
         } else {
             i += 1;
         }
     }
-    n
+    NONE
 }
 
 // The same for two rows of the table.
@@ -113,20 +106,18 @@ pub fn meet_rows(
     tables: &[u8],
     coords: &[i64],
     marks: &[u8],
-    n: usize,
     table: &[u16],
-    one: Row,
-    two: Row,
-    t: [u16; 8],
-    x: usize,
-    d: usize,
+    rows: Rows,
+    place: Place,
     lo: usize,
 ) -> usize
     requires { ⌜ now tables ≡ levels ⌝ }
-    requires { ⌜ (Close (now coords) × (length (now marks) ≡ places)) × ((x < 19) × (d < 8)) ⌝ }
-    requires { ⌜ Served (now table) one × Served (now table) two ⌝ }
-    ensures { λ r. ⌜ Met (λ v. fits (now (coords .entry)) (now (marks .entry)) x d (set t d v)) (entriesOf (now (table .entry)) one) (entriesOf (now (table .entry)) two) n lo r ⌝ }
+    requires { ⌜ (Close (now coords) × (length (now marks) ≡ places)) × Placed place ⌝ }
+    requires { ⌜ Served (now table) (rows .one) × Served (now table) (rows .two) ⌝ }
+    ensures { λ r. ⌜ Met (fitsWith (now (coords .entry)) (now (marks .entry)) place) (entriesOf (now (table .entry)) (rows .one)) (entriesOf (now (table .entry)) (rows .two)) lo r ⌝ }
 {
+    let one = rows.one;
+    let two = rows.two;
     let from = one.from;
     let end = from + one.size;
     let low = two.from;
@@ -135,12 +126,9 @@ pub fn meet_rows(
         tables,
         coords,
         marks,
-        n,
         &table[from..end],
         &table[low..high],
-        t,
-        x,
-        d,
+        place,
         lo,
     )
 }
@@ -172,16 +160,16 @@ pub fn partner(r: Row, q: Row) -> Row
     if q.size < r.size { r } else { q }
 }
 
-// lo, or the first vertex above those that place d must be above.
-pub fn rise(tables: &[u8], t: [u16; 8], x: usize, lo: usize) -> usize
+// lo, or the first vertex above those that the place must be above.
+pub fn rise(tables: &[u8], place: Place, lo: usize) -> usize
     requires { ⌜ now tables ≡ levels ⌝ }
-    requires { ⌜ x < 19 ⌝ }
-    ensures { λ r. ⌜ Raised t x lo r ⌝ }
+    requires { ⌜ Placed place ⌝ }
+    ensures { λ r. ⌜ Raised (place .tuple) (place .row) lo r ⌝ }
 {
-    let k = lesser_of(tables, x);
+    let k = lesser_of(tables, place.row);
     if k == 0 {
         return lo;
     }
-    let y = wide(t[k - 1]) + 1;
+    let y = wide(place.tuple[k - 1]) + 1;
     if lo < y { y } else { lo }
 }

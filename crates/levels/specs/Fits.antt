@@ -1,16 +1,17 @@
 -- The test of one level: what a tuple must pass at place d, by its entries up to there, for a cell to go on from them.
 -- Assumes nothing.
-use Prim.Native.Nat.{ℕ}
+use Prim.Native.Nat.{ℕ, _<_}
 use mathlib.Core.Bool.{Bool, not, _&&_}
 use mathlib.Core.List.{List}
 use lib.Dec.{ltb}
 use lib.IntN.{ℤ}
-use lib.ListN.{getD}
+use lib.ListN.{getD, set}
 use Rattle.base.specs.Lists.{all, upTo, isIn}
 use Rattle.cells.specs.Cells.{boxOf, boxesAbove}
 use Rattle.cells.specs.Rows.{pointsOf}
 use Rattle.marks.specs.Marks.{facesNoted}
 use Rattle.portions.specs.Tuples.{front}
+use Rattle.levels.specs.declared.Place.{Place}
 use Rattle.levels.specs.Levels.{lesser, levelTriangles, levelQuads, levelTriples}
 
 -- the vertex at place d is new, and above those that it must be above
@@ -21,3 +22,12 @@ comesAfter x d s = not (isIn (getD s d 0) (front d s)) && all (λ k. ltb (getD s
 unfoldable pub fits : List ℤ → List ℕ → ℕ → ℕ → List ℕ → Bool
 fits zs ms x d s =
     comesAfter x d s && facesNoted ms s (levelTriangles x) (levelQuads x) && boxesAbove (boxOf (pointsOf zs)) s (levelTriples x)
+
+-- the tables have the row, and tuples the place
+pub record Placed (p : Place) : Type 0 where
+  pub row : p .row < 19
+  pub at : p .at < 8
+
+-- the tuple passes the test of its place with v there
+abbrev pub fitsWith : List ℤ → List ℕ → Place → ℕ → Bool
+fitsWith zs ms p v = fits zs ms (p .row) (p .at) (set (p .tuple) (p .at) v)

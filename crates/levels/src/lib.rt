@@ -10,14 +10,21 @@ use templates::is_in;
 ghost use mathlib.Core.Path.{_≡_};
 ghost use Prim.Native.Nat.{_+_, _<_, _≤_};
 ghost use lib.Dec.{ltb};
-ghost use lib.ListN.{length, getD, set};
+ghost use lib.ListN.{length, getD};
 ghost use Rattle.base.specs.Lists.{all, upTo};
 ghost use Rattle.space.specs.Arrays.{Close};
 ghost use Rattle.cells.specs.Cells.{boxOf, boxesAbove};
 ghost use Rattle.cells.specs.Rows.{threes, fours, pointsOf};
 ghost use Rattle.marks.specs.Marks.{places, facesNoted};
 ghost use Rattle.levels.specs.Levels.{lesser, joined, also, third, look, part, levelTriangles, levelQuads, levelTriples, levels, Cut};
-ghost use Rattle.levels.specs.Fits.{comesAfter, fits};
+ghost use Rattle.levels.specs.Fits.{comesAfter, fits, Placed, fitsWith};
+
+// A place of a tuple: the tuple, in search order, the row of the tables of the levels, and which place it is.
+pub struct Place {
+    pub tuple: [u16; 8],
+    pub row: usize,
+    pub at: usize,
+}
 
 // Where the tables begin: of the rows of faces and corner triples they name the entries, which stand first.
 const TRIANGLES_AT: usize = 130;
@@ -41,6 +48,12 @@ pub fn tables() -> [u8; 380]
     ensures { λ r. ⌜ r ≡ levels ⌝ }
 {
     LEVELS
+}
+
+pub fn wide(x: u16) -> usize
+    ensures { λ r. ⌜ (r ≡ x) × (r < 65536) ⌝ }
+{
+    x as usize
 }
 
 fn small(x: u8) -> usize
@@ -190,22 +203,15 @@ fn passes(tables: &[u8], coords: &[i64], marks: &[u8], s: &[u16], x: usize, d: u
     sound_at(tables, coords, s, x)
 }
 
-// The tuple passes with v at place d.
-pub fn tries(
-    tables: &[u8],
-    coords: &[i64],
-    marks: &[u8],
-    t: [u16; 8],
-    x: usize,
-    d: usize,
-    v: Vertex,
-) -> bool
+// The tuple passes with v at the place.
+pub fn tries(tables: &[u8], coords: &[i64], marks: &[u8], p: Place, v: Vertex) -> bool
     requires { ⌜ now tables ≡ levels ⌝ }
     requires { ⌜ Close (now coords) × (length (now marks) ≡ places) ⌝ }
-    requires { ⌜ (x < 19) × (d < 8) ⌝ }
-    ensures { λ r. ⌜ r ≡ fits (now (coords .entry)) (now (marks .entry)) x d (set t d (v .0)) ⌝ }
+    requires { ⌜ Placed p ⌝ }
+    ensures { λ r. ⌜ r ≡ fitsWith (now (coords .entry)) (now (marks .entry)) p (v .0) ⌝ }
 {
-    let mut s = t;
+    let mut s = p.tuple;
+    let d = p.at;
     s[d] = v.0;
-    passes(tables, coords, marks, &s, x, d)
+    passes(tables, coords, marks, &s, p.row, d)
 }

@@ -25,7 +25,8 @@ use Rattle.cells.specs.Cells.{first, second, isFacet, isSplit, hasFaces}
 use Rattle.rule.specs.Rule.{isLeaf}
 use Rattle.reaching.specs.Reaching.{mayLink, Closes, Links}
 use Rattle.levels.specs.Levels.{base, lesser, look}
-use Rattle.aims.specs.Aims.{floorOf, edge, edgeAt, Follows, LinksFirst, Aims}
+use Rattle.aims.specs.Aims.{edge, LinksFirst, Aims}
+use Rattle.hunting.specs.Goes.{floorOf, edgeAt, Follows}
 use Rattle.levels.proofs.Right.{at-place}
 use Rattle.levels.proofs.Following.{ways, covered, linked, follows, followsAny, ahead-at, follows-below, floored, Sides, Twice, RowThree, row-three, row-eleven, row-sixteen}
 use Rattle.listed.proofs.Prune.{leaf-faces, leaf-small}

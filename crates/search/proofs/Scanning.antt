@@ -1,6 +1,6 @@
 -- Looking in two rows of neighbours alone leaves out no cell; and where a search begins.
 -- Assumes nothing.
-use Prim.Native.Nat.{ℕ, _+_, _/_, _<_}
+use Prim.Native.Nat.{ℕ, _+_, _-_, _/_, _<_}
 use mathlib.Core.Path.{_≡_, refl, sym, _∙_, ap, subst}
 use mathlib.Core.Logic.{_⊎_, inl, inr, ⊎-elim}
 use mathlib.Core.Bool.{Bool, true, false, _&&_, true≢false}
@@ -23,9 +23,10 @@ use Rattle.neighbours.proofs.Reading.{tabled-rowed, row-of-in, entries-rise, en
 use Rattle.portions.specs.Tuples.{Agree, Skips}
 use Rattle.rule.specs.Rule.{isLeaf}
 use Rattle.levels.specs.Levels.{base, joined, also, third}
-use Rattle.levels.specs.Fits.{fits}
+use Rattle.levels.specs.declared.Place.{Place}
+use Rattle.levels.specs.Fits.{fits, fitsWith}
 use Rattle.candidates.specs.Met.{Served, Met}
-use Rattle.search.specs.Ready.{Ready, Sought, Drawn, Begins}
+use Rattle.search.specs.Ready.{Ready, Sought, Drawn, OfKind, Last, Begins}
 use Rattle.portions.proofs.Search.{Laws}
 use Rattle.rule.proofs.OneKind.{leaf-laws}
 use Rattle.levels.proofs.Right.{joinedBy}
@@ -56,54 +57,73 @@ module _ {zs : List ℤ} {ls : List ℕ} {n : ℕ} {os es ms table : List ℕ} (
 pub points-are : {zs : List ℤ} {n : ℕ} {ms table : List ℕ} → Sought zs n ms table → (ls ps : List ℕ) → length (meshOf zs ls ps .points) ≡ n
 points-are {zs} g ls ps = length-up (pointAt zs) (length zs / 3) ∙ g .counted
 
-module _ {zs : List ℤ} {n : ℕ} {ms table : List ℕ} (g : Sought zs n ms table) (k : ℕ) (t : List ℕ) (d : ℕ) (h : d < templateOf k .corners) where
-  -- a row rises and has every vertex with which a listed tuple goes on
-  pub record Serves (r : Row) : Type 0 where
-    pub served : Served table r
-    pub has : (ls ps s : List ℕ) → Drawn ls n ms table → isLeaf (meshOf zs ls ps) (templateOf k) s ≡ true → Agree d t s → InRow table r (getD s d 0)
+-- of three rows that are as asked two are chosen
+module _ (P : Row → Type 0) where
+  chosen : {r q a : Row} → P r → P q → (a ≡ r) ⊎ (a ≡ q) → P a
+  chosen x y (inl e) = subst P (sym e) x
+  chosen x y (inr e) = subst P (sym e) y
 
-  -- the row of the entry at p, where a listed tuple's corner there is joined to the one at d
-  row-serves : (p : ℕ) → ((ls ps s : List ℕ) → isLeaf (meshOf zs ls ps) (templateOf k) s ≡ true → Joined ls s p d) → Serves (rowIn n table (getD t p 0))
-  row-serves p joins = record {
-    served = g .served (getD t p 0);
-    has = λ ls ps s w leaf a.
-        let j = joins ls ps s leaf in
-        let u = getD t p 0 in
-        let same : u ≡ getD s p 0 = a p (j .earlier) in
-        let l : u < n = omega (arith, same, leaf-small zs ls ps k s leaf p (omega (arith, j .earlier)), points-are g ls ps) in
-        entries-have (row-of-in (w .tabled) u refl) l (omega (arith, leaf-small zs ls ps k s leaf d h, points-are g ls ps)) (ap (λ y. eqb y (getD s d 0)) same ∙ j .other) (ap (λ y. togetherIn ls (y ∷ getD s d 0 ∷ [])) same ∙ j .edge);
-  }
+  chosen-two : {r q s f one two : Row} → P r → P q → P s → (f ≡ r) ⊎ (f ≡ q) → (one ≡ f) ⊎ (one ≡ s) → (two ≡ f) ⊎ (two ≡ s) → P one × P two
+  chosen-two x y z a b c = let f = chosen x y a in (chosen f z b, chosen f z c)
 
-  either-serves : {r q a : Row} → Serves r → Serves q → (a ≡ r) ⊎ (a ≡ q) → Serves a
-  either-serves x y (inl e) = subst Serves (sym e) x
-  either-serves x y (inr e) = subst Serves (sym e) y
+module _ {zs : List ℤ} {n : ℕ} {ms table : List ℕ} (g : Sought zs n ms table) where
+  pub two-served : (i j l : ℕ) {r q s f one two : Row} → r ≡ rowIn n table i → q ≡ rowIn n table j → s ≡ rowIn n table l → (f ≡ r) ⊎ (f ≡ q) → (one ≡ f) ⊎ (one ≡ s) → (two ≡ f) ⊎ (two ≡ s) → Served table one × Served table two
+  two-served i j l x y z = chosen-two (Served table) (there i x) (there j y) (there l z)
+    where
+      there : (v : ℕ) {r : Row} → r ≡ rowIn n table v → Served table r
+      there v e = subst (Served table) (sym e) (g .served v)
 
-  -- the rows of the joined corners, and those that are chosen among them
-  module _ (z : d ≡ 0 → ⊥) where
-    module _ {x : ℕ} (e : x ≡ base k + d) where
-      joined-serves : {l : List ℕ} → List·Memᴰ l joinedBy → {i : ℕ} → i ≡ getD l x 0 → {r : Row} → r ≡ rowIn n table (getD t i 0) → Serves r
+  module _ {k : ℕ} {place : Place} (o : OfKind k place) where
+    abbrev d : ℕ
+    d = place .at
+
+    abbrev t : List ℕ
+    t = place .tuple
+
+    -- the row has every vertex with which a listed tuple goes on
+    pub record Serves (r : Row) : Type 0 where
+      pub has : (ls ps s : List ℕ) → Drawn ls n ms table → isLeaf (meshOf zs ls ps) (templateOf k) s ≡ true → Agree (place .at) (place .tuple) s → InRow table r (getD s (place .at) 0)
+
+    -- the row of the entry at p, where a listed tuple's corner there is joined to the one at d
+    row-serves : (p : ℕ) → ((ls ps s : List ℕ) → isLeaf (meshOf zs ls ps) (templateOf k) s ≡ true → Joined ls s p d) → Serves (rowIn n table (getD t p 0))
+    row-serves p joins = record {
+      has = λ ls ps s w leaf a.
+          let j = joins ls ps s leaf in
+          let u = getD t p 0 in
+          let same : u ≡ getD s p 0 = a p (j .earlier) in
+          let l : u < n = omega (arith, same, leaf-small zs ls ps k s leaf p (omega (arith, j .earlier, o .inside)), points-are g ls ps) in
+          entries-have (row-of-in (w .tabled) u refl) l (omega (arith, leaf-small zs ls ps k s leaf d (o .inside), points-are g ls ps)) (ap (λ y. eqb y (getD s d 0)) same ∙ j .other) (ap (λ y. togetherIn ls (y ∷ getD s d 0 ∷ [])) same ∙ j .edge);
+    }
+
+    module _ (z : place .at ≡ 0 → ⊥) where
+      joined-serves : {l : List ℕ} → List·Memᴰ l joinedBy → {i : ℕ} → i ≡ getD l (place .row) 0 → {r : Row} → r ≡ rowIn n table (getD t i 0) → Serves r
       joined-serves {l} m f w =
           let p = getD l (base k + d) 0 in
-          subst Serves (sym (w ∙ ap (λ y. rowIn n table (getD t y 0)) (f ∙ ap (λ y. getD l y 0) e))) (row-serves p (λ ls ps s leaf. leaf-joined zs ls ps k s leaf d h z m))
+          subst Serves (sym (w ∙ ap (λ y. rowIn n table (getD t y 0)) (f ∙ ap (λ y. getD l y 0) (o .row)))) (row-serves p (λ ls ps s leaf. leaf-joined zs ls ps k s leaf d (o .inside) z m))
 
-      pub chosen-serve : {i j l : ℕ} → i ≡ getD joined x 0 → j ≡ getD also x 0 → l ≡ getD third x 0 → {r q s f one two : Row} → r ≡ rowIn n table (getD t i 0) → q ≡ rowIn n table (getD t j 0) → s ≡ rowIn n table (getD t l 0) → (f ≡ r) ⊎ (f ≡ q) → (one ≡ f) ⊎ (one ≡ s) → (two ≡ f) ⊎ (two ≡ s) → Serves one × Serves two
-      chosen-serve e1 e2 e3 {s = s} {f = f} w1 w2 w3 a b c =
-          let first : Serves f = either-serves (joined-serves (List·Memᴰ·head refl) e1 w1) (joined-serves (List·Memᴰ·tail (List·Memᴰ·head refl)) e2 w2) a in
-          let last : Serves s = joined-serves (List·Memᴰ·tail (List·Memᴰ·tail (List·Memᴰ·head refl))) e3 w3 in
-          (either-serves first last b, either-serves first last c)
+      -- the rows of the joined corners, and those that are chosen among them
+      pub two-serve : {i j l : ℕ} → i ≡ getD joined (place .row) 0 → j ≡ getD also (place .row) 0 → l ≡ getD third (place .row) 0 → {r q s f one two : Row} → r ≡ rowIn n table (getD (place .tuple) i 0) → q ≡ rowIn n table (getD (place .tuple) j 0) → s ≡ rowIn n table (getD (place .tuple) l 0) → (f ≡ r) ⊎ (f ≡ q) → (one ≡ f) ⊎ (one ≡ s) → (two ≡ f) ⊎ (two ≡ s) → Serves one × Serves two
+      two-serve e1 e2 e3 w1 w2 w3 =
+          chosen-two Serves (joined-serves (List·Memᴰ·head refl) e1 w1) (joined-serves (List·Memᴰ·tail (List·Memᴰ·head refl)) e2 w2) (joined-serves (List·Memᴰ·tail (List·Memᴰ·tail (List·Memᴰ·head refl))) e3 w3)
 
-  module _ (l : d < length t) {r q : Row} (x : Serves r) (y : Serves q) where
-    pub meet-skips : {lo v : ℕ} → Met (λ v. fits zs ms (base k + d) d (set t d v)) (entriesOf table r) (entriesOf table q) n lo v → (ls ps : List ℕ) → Drawn ls n ms table → Skips (isLeaf (meshOf zs ls ps) (templateOf k)) t d n lo v
-    meet-skips {lo} {v} c ls ps w = record {
-      low = c .low;
+    pub meet-skips : place .at < length (place .tuple) → {r q : Row} → Serves r × Serves q → {lo v : ℕ} → Met (fitsWith zs ms place) (entriesOf table r) (entriesOf table q) lo v → (ls ps : List ℕ) → Drawn ls n ms table → Skips (isLeaf (meshOf zs ls ps) (templateOf k)) (place .tuple) (place .at) n lo v
+    meet-skips l {r} {q} serve {lo} {v} c ls ps w = record {
+      low = λ b. c .low (omega (arith, g .lent .few));
       miss = λ s e a f b.
-          let i = x .has ls ps s w e a in
-          let j = y .has ls ps s w e a in
-          let o = c .least (i .place) (j .place) (i .before) (j .before) (i .is ∙ sym (j .is)) (omega (arith, f, i .is)) (passes zs ls ps k s e d h (set t d (getD (entriesOf table r) (i .place) 0)) (set-agrees t d l s a (getD (entriesOf table r) (i .place) 0) (i .is)) (w .marked)) in
-          omega (arith, o, i .is, b);
+          let i = serve .0 .has ls ps s w e a in
+          let j = serve .1 .has ls ps s w e a in
+          let u = getD (entriesOf table r) (i .place) 0 in
+          let fit : fitsWith zs ms place u ≡ true = ap (λ y. fits zs ms y d (set t d u)) (o .row) ∙ passes zs ls ps k s e d (o .inside) (set t d u) (set-agrees t d l s a u (i .is)) (w .marked) in
+          omega (arith, c .least (i .place) (j .place) (i .before) (j .before) (i .is ∙ sym (j .is)) (omega (arith, f, i .is)) fit, i .is, b);
     }
 
 -- ── where a search begins ──
+
+pub of-kind : {k b d : ℕ} {t : List ℕ} → b ≡ base k → d < templateOf k .corners → OfKind k (record { tuple = t; row = b + d; at = d })
+of-kind {d = d} e h = record { row = ap (λ y. y + d) e; inside = h }
+
+pub last-of : {k b c : ℕ} {t : List ℕ} → b ≡ base k → c ≡ templateOf k .corners → 0 < c → Last k (record { tuple = t; row = b + (c - 1); at = c - 1 })
+last-of {c = c} e q h = record { row = ap (λ y. y + (c - 1)) e; corners = omega (arith, q) }
 
 module _ {zs : List ℤ} {n : ℕ} {ms table : List ℕ} (g : Sought zs n ms table) (k : ℕ) (mark : List ℕ) where
   pub begins-here : {d v w : ℕ} → d < templateOf k .corners → v ≡ getD mark d 0 → (w ≡ v → ⊥) → ((ls ps : List ℕ) → Drawn ls n ms table → Skips (isLeaf (meshOf zs ls ps) (templateOf k)) mark d n v w) → Begins zs n ms table k mark d

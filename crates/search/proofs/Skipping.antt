@@ -1,7 +1,7 @@
 -- A hunt by whatever aim is known leaves out no cell, and neither does a search from the first vertex that a place may have.
 -- Assumes nothing.
 use Prim.Native.Nat.{ℕ, _+_, _-_, _<_, _≤_}
-use mathlib.Core.Path.{_≡_, refl}
+use mathlib.Core.Path.{_≡_, refl, subst}
 use mathlib.Core.Logic.{inl, inr, ⊎-elim}
 use mathlib.Core.Bool.{Bool, true, false}
 use mathlib.Core.List.{List}
@@ -14,26 +14,30 @@ use Rattle.space.specs.Arrays.{meshOf}
 use Rattle.templates.specs.Tables.{templateOf}
 use Rattle.portions.specs.Tuples.{Agree, Skips}
 use Rattle.rule.specs.Rule.{isLeaf}
+use Rattle.levels.specs.declared.Place.{Place}
 use Rattle.levels.specs.Levels.{base, lesser, look}
 use Rattle.levels.proofs.Right.{right-at}
 use Rattle.levels.proofs.Following.{followsAny, follows-below, ahead-at, row-three}
 use Rattle.reaching.specs.Reaching.{Closes, Least}
 use Rattle.candidates.specs.Met.{Raised}
-use Rattle.aims.specs.Aims.{edgeAt, Follows, LinksFirst, Aims, Goes}
+use Rattle.aims.specs.Aims.{LinksFirst, Aims}
+use Rattle.hunting.specs.Goes.{edgeAt, Follows, Goes}
 use Rattle.listed.proofs.Prune.{passes}
 use Rattle.listed.proofs.Above.{leaf-above}
 use Rattle.listed.proofs.Ahead.{leaf-aims}
-use Rattle.search.specs.Ready.{Drawn}
+use Rattle.search.specs.Ready.{Drawn, OfKind}
 use Rattle.search.proofs.Scanning.{set-agrees}
 
-pub raised-skips : (zs : List ℤ) (ls ps : List ℕ) (k : ℕ) {t : List ℕ} {d : ℕ} → d < templateOf k .corners → {n lo from r : ℕ} → Raised t (base k + d) lo from → Skips (isLeaf (meshOf zs ls ps) (templateOf k)) t d n from r → Skips (isLeaf (meshOf zs ls ps) (templateOf k)) t d n lo r
-raised-skips zs ls ps k {t} {d} h {n} {lo} {from} {r} a b =
+pub raised-skips : (zs : List ℤ) (ls ps : List ℕ) {k : ℕ} {place : Place} → OfKind k place → {n lo from r : ℕ} → Raised (place .tuple) (place .row) lo from → Skips (isLeaf (meshOf zs ls ps) (templateOf k)) (place .tuple) (place .at) n from r → Skips (isLeaf (meshOf zs ls ps) (templateOf k)) (place .tuple) (place .at) n lo r
+raised-skips zs ls ps {k} {place} o {n} {lo} {from} {r} q b =
+    let d = place .at in
+    let a = subst (λ x. Raised (place .tuple) x lo from) (o .row) q in
     record {
       low = λ g. omega (arith, a .low, b .low g);
       miss = λ s leaf g f. b .miss s leaf g (⊎-elim (λ e. omega arith) (λ e.
           let j = getD lesser (base k + d) 0 - 1 in
           let l : j < getD lesser (base k + d) 0 = omega (arith, e .0) in
-          omega (arith, e .1, leaf-above zs ls ps k s leaf d h j l, g j (omega (arith, right-at k d h .ofLesser)))) (a .from));
+          omega (arith, e .1, leaf-above zs ls ps k s leaf d (o .inside) j l, g j (omega (arith, right-at k d (o .inside) .ofLesser)))) (a .from));
     }
 
 -- ── a listed tuple goes on ──
@@ -66,14 +70,20 @@ module _ (zs : List ℤ) (ls ps : List ℕ) {n : ℕ} {ms table : List ℕ} (w :
           some = λ e. ⊎-elim inl (λ c. inr (⊎-elim (λ i. inl (closes-here 0 (f .0) i)) (λ i. inr (closes-here 3 (f .1) i)) c)) (q .some e);
         }
 
-    goes : Goes zs n table ms (base k + d) d t (getD s d 0)
+    goes : Goes zs n table ms (record { tuple = t; row = base k + d; at = d }) (getD s d 0)
     goes = record {
       fit = passes zs ls ps k s leaf d h (set t d (getD s d 0)) (set-agrees t d l s a (getD s d 0) refl) (w .marked);
       follows = λ some both o p q. let r = leaf-aims zs ls ps k s leaf (w .labelled) (w .tabled) (w .marked) few d h z (aims-there q) in (r .0, follows-here (r .1));
     }
 
-  pub hunt-skips : {lo r : ℕ} → Least (Goes zs n table ms (base k + d) d t) lo n r → Skips (isLeaf (meshOf zs ls ps) (templateOf k)) t d n lo r
-  hunt-skips b = record {
+  goes-skips : {lo r : ℕ} → Least (Goes zs n table ms (record { tuple = t; row = base k + d; at = d })) lo n r → Skips (isLeaf (meshOf zs ls ps) (templateOf k)) t d n lo r
+  goes-skips b = record {
     low = b .low;
     miss = λ s leaf a f g. let i = b .least (getD s d 0) (goes s leaf a) f in omega arith;
   }
+
+pub hunt-skips : (zs : List ℤ) (ls ps : List ℕ) {n : ℕ} {ms table : List ℕ} → Drawn ls n ms table → length (meshOf zs ls ps .points) ≤ 512 → {k : ℕ} {place : Place} → OfKind k place → place .at < length (place .tuple) → eqb (look (place .row) 0) (look (place .row) 1) ≡ false → {lo r : ℕ} → Least (Goes zs n table ms place) lo n r → Skips (isLeaf (meshOf zs ls ps) (templateOf k)) (place .tuple) (place .at) n lo r
+hunt-skips zs ls ps {n} {ms} {table} w few {k} {place} o l z {lo} {r} b =
+    goes-skips zs ls ps w few k (place .tuple) (place .at) (o .inside) l
+    (subst (λ x. eqb (look x 0) (look x 1) ≡ false) (o .row) z)
+    (subst (λ x. Least (Goes zs n table ms (record { tuple = place .tuple; row = x; at = place .at })) lo n r) (o .row) b)

@@ -18,6 +18,8 @@ use Rattle.rule.specs.Rule.{isLeaf, cellAt}
 use Rattle.filling.specs.Found.{Found as Numbered}
 use Rattle.search.specs.declared.Found.{Found}
 use Rattle.reaching.specs.Reaching.{Lent}
+use Rattle.levels.specs.declared.Place.{Place}
+use Rattle.levels.specs.Levels.{base}
 use Rattle.candidates.specs.Met.{Served}
 
 -- the mesh of n vertices in working arrays, its index, the marks of its facets and its neighbour table
@@ -41,6 +43,15 @@ pub record Drawn (ls : List ℕ) (n : ℕ) (ms table : List ℕ) : Type 0 where
   pub labelled : Labelled ls n
   pub marked : Marked ls ms
   pub tabled : Tabled ls n table
+
+-- the place is one of kind k; it is its last
+pub record OfKind (k : ℕ) (place : Place) : Type 0 where
+  pub row : place .row ≡ base k + place .at
+  pub inside : place .at < templateOf k .corners
+
+pub record Last (k : ℕ) (place : Place) : Type 0 where
+  pub row : place .row ≡ base k + place .at
+  pub corners : place .at + 1 ≡ templateOf k .corners
 
 -- the search for tuples after the mark begins at place r: the last, or one at which no listed tuple goes on with the mark's entry
 pub record Begins (zs : List ℤ) (n : ℕ) (ms table : List ℕ) (k : ℕ) (mark : List ℕ) (r : ℕ) : Type 0 where

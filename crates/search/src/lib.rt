@@ -1,15 +1,18 @@
 // The search for the next cell of a kind: the least tuple after a tuple that is a cell in least form, by an odometer over one tuple with a level.
-// A tuple is kept in search order; x is the row of a place in the tables of the levels.
-use aims::hunt;
-use aims::looks_ahead;
+// x is the row of a place in the tables of the levels.
+use candidates::Rows;
 use candidates::meet_rows;
 use candidates::nearer;
 use candidates::partner;
 use candidates::rise;
 use filling::Tets;
+use hunting::hunt;
+use hunting::looks_ahead;
+use levels::Place;
 use levels::also_of;
 use levels::joined_of;
 use levels::third_of;
+use levels::wide;
 use neighbours::row_of;
 use order::corners_of;
 use reaching::fewer;
@@ -28,19 +31,14 @@ ghost use Rattle.around.specs.Arrays.{Arrays};
 ghost use Rattle.portions.specs.Tuples.{Skips, LeastAfter};
 ghost use Rattle.rule.specs.Rule.{isLeaf, cellAt};
 ghost use Rattle.levels.specs.Levels.{base, levels};
-ghost use Rattle.search.specs.Ready.{Ready, Sought, Drawn, Begins, Tested};
+ghost use Rattle.levels.specs.Fits.{Placed};
+ghost use Rattle.search.specs.Ready.{Ready, Sought, Drawn, OfKind, Last, Begins, Tested};
 
 // The tuple that was found, in search order, and the tetrahedra of its cell.
 pub struct Found {
     pub found: bool,
     pub tuple: [u16; 8],
     pub tets: Tets,
-}
-
-fn wide(x: u16) -> usize
-    ensures { λ r. ⌜ (r ≡ x) × (r < 65536) ⌝ }
-{
-    x as usize
 }
 
 // Where the rows of a kind begin in the tables of the levels.
@@ -53,66 +51,74 @@ fn base_of(kind: u16) -> usize
     if kind == 6 { 8 } else { 14 }
 }
 
-// Where to go on at place d from lo: a vertex with which the tuple passes, or n. No cell is left out before it.
+// Where to go on at a place from lo: a vertex with which the tuple passes, or none of the n vertices. No cell is left out before it.
 fn seek(
     tables: &[u8],
     coords: &[i64],
     n: usize,
     marks: &[u8],
     table: &[u16],
-    kind: u16,
-    t: [u16; 8],
-    d: usize,
+    place: Place,
     lo: usize,
 ) -> usize
     requires { ⌜ now tables ≡ levels ⌝ }
     requires { ⌜ Sought (now coords) n (now marks) (now table) ⌝ }
-    requires { ⌜ d < templateOf kind .corners ⌝ }
-    ensures { λ r. ⌜ ((ls ps : List ℕ) → Drawn ls n (now (marks .entry)) (now (table .entry)) → Skips (isLeaf (meshOf (now (coords .entry)) ls ps) (templateOf kind)) t d n lo r) ⌝ }
+    requires { ⌜ Placed place ⌝ }
+    ensures { λ r. ⌜ ((k : ℕ) (ls ps : List ℕ) → OfKind k place → Drawn ls n (now (marks .entry)) (now (table .entry)) → Skips (isLeaf (meshOf (now (coords .entry)) ls ps) (templateOf k)) (place .tuple) (place .at) n lo r) ⌝ }
 {
+    let d = place.at;
     if d == 0 {
         return lo;
     }
-    let x = base_of(kind) + d;
-    let from = rise(tables, t, x, lo);
+    let t = place.tuple;
+    let x = place.row;
+    let from = rise(tables, place, lo);
     let r = row_of(n, table, Vertex(t[joined_of(tables, x)]));
     let q = row_of(n, table, Vertex(t[also_of(tables, x)]));
     let s = row_of(n, table, Vertex(t[third_of(tables, x)]));
     let f = nearer(tables, x, r, q);
     let one = fewer(f, s);
-    if looks_ahead(tables, n, table, t, x, one.size) {
-        return hunt(tables, coords, n, table, marks, t, x, d, from);
+    if looks_ahead(tables, n, table, place, one.size) {
+        return hunt(tables, coords, n, table, marks, place, from);
     }
     let two = partner(f, s);
-    meet_rows(tables, coords, marks, n, table, one, two, t, x, d, from)
+    let rows = Rows { one, two };
+    meet_rows(tables, coords, marks, table, rows, place, from)
 }
 
 // ---- the search
 
-// The first place at which no cell goes on with the mark's entry, or the last. Where the mark is a cell that was told already, it is the last: then it
-// need not be looked for. That is a matter of speed alone.
+// The first place at which no cell goes on with the mark's entry, or the last, which is lent with the mark. Where the mark is a cell that was told already,
+// it is the last: then it need not be looked for. That is a matter of speed alone.
 fn start(
     tables: &[u8],
     coords: &[i64],
     n: usize,
     marks: &[u8],
     table: &[u16],
-    kind: u16,
-    mark: [u16; 8],
+    last: Place,
     told: bool,
 ) -> usize
     requires { ⌜ now tables ≡ levels ⌝ }
     requires { ⌜ Sought (now coords) n (now marks) (now table) ⌝ }
-    ensures { λ r. ⌜ Begins (now (coords .entry)) n (now (marks .entry)) (now (table .entry)) kind mark r ⌝ }
+    requires { ⌜ Placed last × (last .at ≤ last .row) ⌝ }
+    ensures { λ r. ⌜ ((k : ℕ) → Last k last → Begins (now (coords .entry)) n (now (marks .entry)) (now (table .entry)) k (last .tuple) r) ⌝ }
 {
-    let k = corners_of(kind);
+    let end = last.at;
     if told {
-        return k - 1;
+        return end;
     }
+    let mark = last.tuple;
+    let base = last.row - end;
     let mut d = 0;
-    while d + 1 < k {
+    while d < end {
         let v = wide(mark[d]);
-        if seek(tables, coords, n, marks, table, kind, mark, d, v) != v {
+        let place = Place {
+            tuple: mark,
+            row: base + d,
+            at: d,
+        };
+        if seek(tables, coords, n, marks, table, place, v) != v {
             return d;
         }
         d += 1;
@@ -174,11 +180,22 @@ pub fn next(
     ensures { λ r. ⌜ (r .found ≡ true → Numbered (cellAt (meshOf (now (coords .entry)) (now (labels .entry)) (now (parts .entry))) (templateOf kind) (r .tuple) .tets) (r .tets)) ⌝ }
 {
     let k = corners_of(kind);
+    let base = base_of(kind);
+    let last = Place {
+        tuple: mark,
+        row: base + (k - 1),
+        at: k - 1,
+    };
     let mut t = mark;
-    let mut d = start(tables, coords, n, marks, table, kind, mark, told);
+    let mut d = start(tables, coords, n, marks, table, last, told);
     let mut lo = wide(t[d]) + 1;
     loop {
-        let c = seek(tables, coords, n, marks, table, kind, t, d, lo);
+        let place = Place {
+            tuple: t,
+            row: base + d,
+            at: d,
+        };
+        let c = seek(tables, coords, n, marks, table, place, lo);
         if c < n {
             t[d] = c as u16;
             if d + 1 < k {

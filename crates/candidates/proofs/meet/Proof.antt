@@ -1,19 +1,19 @@
 -- `candidates::meet` meets its contract. Assumes nothing.
 use Prim.Native.Nat.{_+_, _-_}
 use mathlib.Core.Logic.{inl, inr}
-use lib.ListN.{length, set}
+use lib.ListN.{length}
 use native.Mathlib.Omega.{arith}
-use Rattle.levels.specs.Fits.{fits}
+use Rattle.levels.specs.Fits.{fitsWith}
 use Rattle.candidates.proofs.Meeting.{Onward, onward-from, onward-first, onward-second, met-none, met-here}
 use borrow.Author.Needs.{needs}
 use Rattle.candidates.proofs.meet.Statement.{statement}
 use Rattle.candidates.proofs.meet.Tie as tie
 
 abbrev Inv-loop : tie.InvT-loop
-Inv-loop tables coords marks n one two t x d lo i₀ j₀ i j = Onward (λ v. fits coords marks x d (set t d v)) one two lo i j
+Inv-loop tables coords marks one two place lo i₀ j₀ i j = Onward (fitsWith coords marks place) one two lo i j
 
 abbrev μ-loop : tie.MeasureT-loop
-μ-loop tables coords marks n one two t x d lo i₀ j₀ i j = (length one - i) + (length two - j)
+μ-loop tables coords marks one two place lo i₀ j₀ i j = (length one - i) + (length two - j)
 
 enter-requires : tie.Need-enter-requires Inv-loop μ-loop
 enter-requires c κs = c .before .before .before .before .pre .1 .1 .1 .0
@@ -25,7 +25,7 @@ loop-holds : tie.Need-loop-holds Inv-loop μ-loop
 loop-holds c = onward-from (c .before .enter .ensures) (c .enter2 .ensures)
 
 returns : tie.Need-returns Inv-loop μ-loop
-returns c = met-none (c .before .before .loop .inv) (inr (omega arith)) _
+returns c = met-none (c .before .before .loop .inv) (inr (omega arith))
 
 mul-v : tie.Need-mul-v Inv-loop μ-loop
 mul-v c = omega arith
@@ -59,7 +59,7 @@ wide-requires c κs = search needs
 returns-2 : tie.Need-returns-2 Inv-loop μ-loop
 returns-2 c =
     let z = c .before .before .before .before .before .before .before .before .before .before .before .before .before .before .before in
-    met-here (c .before .before .before .before .before .before .before .before .loop .inv) (z .pre .1 .1 .1 .0) (z .pre .1 .1 .1 .1) (c .before .before .agree .ensures) (omega arith) (z .args .n) (c .wide .ensures .0) (c .before .if3 .taken)
+    met-here (c .before .before .before .before .before .before .before .before .loop .inv) (z .pre .1 .1 .1 .0) (z .pre .1 .1 .1 .1) (c .before .before .agree .ensures) (omega arith) (c .wide .ensures .0) (c .before .if3 .taken)
 
 add-i : tie.Need-add-i Inv-loop μ-loop
 add-i c = omega arith
@@ -73,7 +73,7 @@ loop-again-2 c =
     onward-first (c .before .before .before .before .before .before .before .loop .inv) (z .pre .1 .1 .1 .0) (z .pre .1 .1 .1 .1) (c .before .agree .ensures) (λ h. omega (arith, c .before .before .if2 .left)) (c .if3 .left)
 
 returns-3 : tie.Need-returns-3 Inv-loop μ-loop
-returns-3 c = met-none (c .before .loop .inv) (inl (omega arith)) _
+returns-3 c = met-none (c .before .loop .inv) (inl (omega arith))
 
 pub meet-spec : {M : Type 1} → statement M
 meet-spec =

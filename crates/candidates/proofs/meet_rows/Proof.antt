@@ -35,7 +35,7 @@ part-meet-end-2 c = search needs
 
 meet-requires : tie.Need-meet-requires
 meet-requires c κs =
-    let z = c .before .before .before .before .before .before .before in
+    let z = c .before .before .before .before .before .before .before .before .before in
     (z .pre .0, (z .pre .1 .0 .0, (z .pre .1 .0 .1, (z .pre .1 .1 .0 .rises, z .pre .1 .1 .1 .rises))))
 
 returns : tie.Need-returns

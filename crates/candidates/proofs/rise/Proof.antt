@@ -20,8 +20,8 @@ sub-wide c = search needs
 mul-wide : tie.Need-mul-wide
 mul-wide c = search needs
 
-array-read-wide : tie.Need-array-read-wide
-array-read-wide c = search needs
+element-copy-out-wide : tie.Need-element-copy-out-wide
+element-copy-out-wide c = search needs
 
 wide-requires : tie.Need-wide-requires
 wide-requires c κs = search needs
@@ -31,10 +31,10 @@ add-y c = search needs
 
 returns-2 : tie.Need-returns-2
 returns-2 c =
-    let k = c .before .before .before in
+    let k = c .before .before .before .before in
     record {
       low = omega arith;
-      from = inr (omega (arith, c .before .before .if1 .left, k .lesser-of .ensures .0), ap (λ y. y + 1) (c .before .wide .ensures .0 ∙ ap (λ y. getD (k .before .before .args .t2) (y - 1) 0) (k .lesser-of .ensures .0)));
+      from = inr (omega (arith, c .before .before .before .if1 .left, k .lesser-of .ensures .0), ap (λ y. y + 1) (c .before .wide .ensures .0 ∙ ap (λ y. getD (k .before .before .args .t2 .tuple) (y - 1) 0) (k .lesser-of .ensures .0)));
     }
 
 returns-3 : tie.Need-returns-3
@@ -48,7 +48,7 @@ rise-spec =
     returns
     sub-wide
     mul-wide
-    array-read-wide
+    element-copy-out-wide
     wide-requires
     add-y
     returns-2

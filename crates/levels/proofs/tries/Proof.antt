@@ -17,10 +17,11 @@ slice-aggregate-passes c = search needs
 
 passes-requires : tie.Need-passes-requires
 passes-requires c κs =
-    let z = c .before .before .before in
-    let l : length (z .args .t) ≡ 8 = search needs in
-    let e = length-set (z .args .t) (z .args .d) (z .args .v .0) in
-    (z .pre .0, (z .pre .1 .0, (omega (arith, e), omega (arith, e))))
+    let z = c .before .before .before .before in
+    let p = z .args .p in
+    let l : length (p .tuple) ≡ 8 = search needs in
+    let e = length-set (p .tuple) (p .at) (z .args .v .0) in
+    (z .pre .0, (z .pre .1 .0, (z .pre .1 .1 .row, (omega (arith, e, z .pre .1 .1 .at), omega (arith, e)))))
 
 returns : tie.Need-returns
 returns c = c .passes .ensures

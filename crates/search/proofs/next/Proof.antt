@@ -1,4 +1,5 @@
 -- `search::next` meets its contract. Assumes nothing.
+use Prim.Native.Nat.{_-_}
 use mathlib.Core.Path.{_≡_, sym, _∙_}
 use mathlib.Core.Bool.{true≢false}
 use lib.ListN.{length}
@@ -9,27 +10,51 @@ use Rattle.templates.specs.Tables.{templateOf}
 use Rattle.portions.proofs.Search.{Open, begin, descend, reject, result, carry, nothing}
 use Rattle.portions.proofs.Turns.{left, less-descend, less-reject, less-carry}
 use Rattle.rule.specs.Rule.{isLeaf}
-use Rattle.search.proofs.Scanning.{sought-of, drawn-of, laws-of}
+use Rattle.search.proofs.Tables.{row-in}
+use Rattle.search.proofs.Scanning.{sought-of, drawn-of, of-kind, last-of, laws-of}
 use Rattle.search.proofs.next.Statement.{statement}
 use Rattle.search.proofs.next.Tie as tie
 
 abbrev Inv-loop : tie.InvT-loop
-Inv-loop tables coords labels parts n offsets entries marks table kind told k t₀ d₀ lo₀ t d lo = Open (templateOf kind .corners) (isLeaf (meshOf coords labels parts) (templateOf kind)) t₀ t d lo
+Inv-loop tables coords labels parts n offsets entries marks table kind told k base t₀ d₀ lo₀ t d lo = Open (templateOf kind .corners) (isLeaf (meshOf coords labels parts) (templateOf kind)) t₀ t d lo
 
 abbrev μ-loop : tie.MeasureT-loop
-μ-loop tables coords labels parts n offsets entries marks table kind told k t₀ d₀ lo₀ t d lo = left n k t d lo
+μ-loop tables coords labels parts n offsets entries marks table kind told k base t₀ d₀ lo₀ t d lo = left n k t d lo
 
 corners-of-requires : tie.Need-corners-of-requires Inv-loop μ-loop
 corners-of-requires c κs = search needs
 
+base-of-requires : tie.Need-base-of-requires Inv-loop μ-loop
+base-of-requires c κs = search needs
+
+sub-t22 : tie.Need-sub-t22 Inv-loop μ-loop
+sub-t22 c = omega arith
+
+add-t23 : tie.Need-add-t23 Inv-loop μ-loop
+add-t23 c = omega arith
+
+sub-wide : tie.Need-sub-wide Inv-loop μ-loop
+sub-wide c = omega arith
+
 start-requires : tie.Need-start-requires Inv-loop μ-loop
-start-requires c κs = let z = c .before .before .before .before .before .before .before .before in (z .pre .0, sought-of (z .pre .1 .0))
+start-requires c κs =
+    let z = c .before .before .before .before .before .before .before .before .before in
+    let q = c .base-of .ensures in
+    let h = c .before .corners-of .ensures in
+    let i = row-in (z .args .kind) (c .before .corners-of .result - 1) (omega (arith, h)) in
+    (z .pre .0, (sought-of (z .pre .1 .0), (record { row = omega (arith, q, i); at = i .1 }, omega arith)))
 
 mul-wide : tie.Need-mul-wide Inv-loop μ-loop
-mul-wide c = omega arith
+mul-wide c =
+    let z = c .before .before .before .before .before .before .before .before .before .before in
+    let k = c .before .before .corners-of .ensures in
+    omega (arith, k, c .start .ensures (z .args .kind) (last-of (c .before .base-of .ensures .0) (k .0) (omega (arith, k))) .within)
 
 array-read-wide : tie.Need-array-read-wide Inv-loop μ-loop
-array-read-wide c = omega arith
+array-read-wide c =
+    let z = c .before .before .before .before .before .before .before .before .before .before in
+    let k = c .before .before .corners-of .ensures in
+    omega (arith, k, c .start .ensures (z .args .kind) (last-of (c .before .base-of .ensures .0) (k .0) (omega (arith, k))) .within)
 
 wide-requires : tie.Need-wide-requires Inv-loop μ-loop
 wide-requires c κs = search needs
@@ -39,14 +64,22 @@ add-lo c = omega arith
 
 loop-holds : tie.Need-loop-holds Inv-loop μ-loop
 loop-holds c =
-    let z = c .before .before .before .before .before .before .before .before .before .before in
+    let z = c .before .before .before .before .before .before .before .before .before .before .before in
     let w = laws-of (sought-of (z .pre .1 .0)) (z .args .kind) (z .args .mark) (z .args .labels .now) (z .args .parts .now) in
     let g = z .good .1 .1 .1 .1 .1 .1 .1 .1 .1 .1 .0 in
     let l : length (z .args .mark) ≡ 8 = search needs in
-    rw (c .wide .ensures .0) (begin w (c .before .start .ensures .within) (omega (arith, c .before .before .corners-of .ensures)) (c .before .start .ensures .last (z .args .labels .now) (z .args .parts .now) (drawn-of (z .pre .1 .0))))
+    let k = c .before .before .before .corners-of .ensures in
+    let b = c .before .start .ensures (z .args .kind) (last-of (c .before .before .base-of .ensures .0) (k .0) (omega (arith, k))) in
+    rw (c .wide .ensures .0) (begin w (b .within) (omega (arith, k)) (b .last (z .args .labels .now) (z .args .parts .now) (drawn-of (z .pre .1 .0))))
+
+add-t29 : tie.Need-add-t29 Inv-loop μ-loop
+add-t29 c = omega (arith, c .loop .inv .inside)
 
 seek-requires : tie.Need-seek-requires Inv-loop μ-loop
-seek-requires c κs = let z = c .before .before .before .before .before .before .before .before .before .before .before in (z .pre .0, (sought-of (z .pre .1 .0), c .loop .inv .inside))
+seek-requires c κs =
+    let z = c .before .before .before .before .before .before .before .before .before .before .before .before in
+    let i = row-in (z .args .kind) (c .loop .d) (c .loop .inv .inside) in
+    (z .pre .0, (sought-of (z .pre .1 .0), record { row = omega (arith, c .before .before .before .base-of .ensures, i); at = i .1 }))
 
 cast-t : tie.Need-cast-t Inv-loop μ-loop
 cast-t c = omega arith
@@ -65,56 +98,56 @@ add-d c = omega arith
 
 loop-less : tie.Need-loop-less Inv-loop μ-loop
 loop-less c =
-    let z = c .before .before .before .before .before .before .before .before .before .before .before .before .before .before in
+    let z = c .before .before .before .before .before .before .before .before .before .before .before .before .before .before .before in
     let o = c .before .before .before .loop in
     let s = c .before .before .seek in
-    less-descend (z .args .n) (c .before .before .before .before .before .before .corners-of .result) (o .t) (o .d) (o .lo) (s .result) (s .ensures (z .args .labels .now) (z .args .parts .now) (drawn-of (z .pre .1 .0)) .low (omega arith)) (omega arith) (omega (arith, o .inv .inside, o .inv .long)) (omega arith)
+    less-descend (z .args .n) (c .before .before .before .before .before .before .before .corners-of .result) (o .t) (o .d) (o .lo) (s .result) (s .ensures (z .args .kind) (z .args .labels .now) (z .args .parts .now) (of-kind (c .before .before .before .before .before .before .base-of .ensures .0) (o .inv .inside)) (drawn-of (z .pre .1 .0)) .low (omega arith)) (omega arith) (omega (arith, o .inv .inside, o .inv .long)) (omega arith)
 
 loop-again : tie.Need-loop-again Inv-loop μ-loop
 loop-again c =
-    let z = c .before .before .before .before .before .before .before .before .before .before .before .before .before .before in
+    let z = c .before .before .before .before .before .before .before .before .before .before .before .before .before .before .before in
     let w = laws-of (sought-of (z .pre .1 .0)) (z .args .kind) (z .args .mark) (z .args .labels .now) (z .args .parts .now) in
-    descend w (c .before .before .before .loop .inv) (c .before .before .seek .ensures (z .args .labels .now) (z .args .parts .now) (drawn-of (z .pre .1 .0))) (omega arith) (omega (arith, c .before .before .before .before .before .before .corners-of .ensures .0))
+    descend w (c .before .before .before .loop .inv) (c .before .before .seek .ensures (z .args .kind) (z .args .labels .now) (z .args .parts .now) (of-kind (c .before .before .before .before .before .before .base-of .ensures .0) (c .before .before .before .loop .inv .inside)) (drawn-of (z .pre .1 .0))) (omega arith) (omega (arith, c .before .before .before .before .before .before .before .corners-of .ensures .0))
 
 tested-requires : tie.Need-tested-requires Inv-loop μ-loop
 tested-requires c κs =
-    let z = c .before .before .before .before .before .before .before .before .before .before .before .before .before .before in
+    let z = c .before .before .before .before .before .before .before .before .before .before .before .before .before .before .before in
     let h = z .pre .1 .0 in
     rw (h .counted) (record { close = h .close; counted = h .counted; few = h .few; indexed = h .indexed; parted = z .pre .1 .1 })
 
 returns : tie.Need-returns Inv-loop μ-loop
 returns c =
-    let z = c .before .before .before .before .before .before .before .before .before .before .before .before .before .before .before .before in
+    let z = c .before .before .before .before .before .before .before .before .before .before .before .before .before .before .before .before .before in
     let w = laws-of (sought-of (z .pre .1 .0)) (z .args .kind) (z .args .mark) (z .args .labels .now) (z .args .parts .now) in
     let l = c .before .tested .ensures in (
-      rw (c .if3 .taken, l .same) (result w (c .before .before .before .before .before .loop .inv) (c .before .before .before .before .seek .ensures (z .args .labels .now) (z .args .parts .now) (drawn-of (z .pre .1 .0))) (omega arith) (omega (arith, c .before .before .before .before .before .before .before .before .corners-of .ensures .0)) (sym (l .is) ∙ c .if3 .taken)),
+      rw (c .if3 .taken, l .same) (result w (c .before .before .before .before .before .loop .inv) (c .before .before .before .before .seek .ensures (z .args .kind) (z .args .labels .now) (z .args .parts .now) (of-kind (c .before .before .before .before .before .before .before .before .base-of .ensures .0) (c .before .before .before .before .before .loop .inv .inside)) (drawn-of (z .pre .1 .0))) (omega arith) (omega (arith, c .before .before .before .before .before .before .before .before .before .corners-of .ensures .0)) (sym (l .is) ∙ c .if3 .taken)),
       λ y. rw (l .same) (l .tets y),
     )
 
 add-lo-2 : tie.Need-add-lo-2 Inv-loop μ-loop
-add-lo-2 c = let z = c .before .before .before .before .before .before .before .before .before .before .before .before .before .before .before .before in omega (arith, z .pre .1 .0 .few)
+add-lo-2 c = let z = c .before .before .before .before .before .before .before .before .before .before .before .before .before .before .before .before .before in omega (arith, z .pre .1 .0 .few)
 
 loop-less-2 : tie.Need-loop-less-2 Inv-loop μ-loop
 loop-less-2 c =
-    let z = c .before .before .before .before .before .before .before .before .before .before .before .before .before .before .before .before in
+    let z = c .before .before .before .before .before .before .before .before .before .before .before .before .before .before .before .before .before in
     let o = c .before .before .before .before .before .loop in
     let s = c .before .before .before .before .seek in
-    less-reject (z .args .n) (c .before .before .before .before .before .before .before .before .corners-of .result) (o .t) (o .d) (o .lo) (s .result) (s .ensures (z .args .labels .now) (z .args .parts .now) (drawn-of (z .pre .1 .0)) .low (omega arith)) (omega arith)
+    less-reject (z .args .n) (c .before .before .before .before .before .before .before .before .before .corners-of .result) (o .t) (o .d) (o .lo) (s .result) (s .ensures (z .args .kind) (z .args .labels .now) (z .args .parts .now) (of-kind (c .before .before .before .before .before .before .before .before .base-of .ensures .0) (o .inv .inside)) (drawn-of (z .pre .1 .0)) .low (omega arith)) (omega arith)
 
 loop-again-2 : tie.Need-loop-again-2 Inv-loop μ-loop
 loop-again-2 c =
-    let z = c .before .before .before .before .before .before .before .before .before .before .before .before .before .before .before .before in
+    let z = c .before .before .before .before .before .before .before .before .before .before .before .before .before .before .before .before .before in
     let w = laws-of (sought-of (z .pre .1 .0)) (z .args .kind) (z .args .mark) (z .args .labels .now) (z .args .parts .now) in
-    reject w (c .before .before .before .before .before .loop .inv) (c .before .before .before .before .seek .ensures (z .args .labels .now) (z .args .parts .now) (drawn-of (z .pre .1 .0))) (omega arith) (omega (arith, c .before .before .before .before .before .before .before .before .corners-of .ensures .0)) (sym (c .before .tested .ensures .is) ∙ c .if3 .left)
+    reject w (c .before .before .before .before .before .loop .inv) (c .before .before .before .before .seek .ensures (z .args .kind) (z .args .labels .now) (z .args .parts .now) (of-kind (c .before .before .before .before .before .before .before .before .base-of .ensures .0) (c .before .before .before .before .before .loop .inv .inside)) (drawn-of (z .pre .1 .0))) (omega arith) (omega (arith, c .before .before .before .before .before .before .before .before .before .corners-of .ensures .0)) (sym (c .before .tested .ensures .is) ∙ c .if3 .left)
 
 none-requires : tie.Need-none-requires Inv-loop μ-loop
 none-requires c κs = search needs
 
 returns-2 : tie.Need-returns-2 Inv-loop μ-loop
 returns-2 c =
-    let z = c .before .before .before .before .before .before .before .before .before .before .before .before .before .before .before in
+    let z = c .before .before .before .before .before .before .before .before .before .before .before .before .before .before .before .before in
     let w = laws-of (sought-of (z .pre .1 .0)) (z .args .kind) (z .args .mark) (z .args .labels .now) (z .args .parts .now) in
-    (rw (c .none .ensures .0, c .none .ensures .1) (nothing w (c .before .before .before .before .loop .inv) (c .before .before .before .seek .ensures (z .args .labels .now) (z .args .parts .now) (drawn-of (z .pre .1 .0))) (omega arith) (omega arith)), λ y. absurd (true≢false (sym y ∙ c .none .ensures .0)))
+    (rw (c .none .ensures .0, c .none .ensures .1) (nothing w (c .before .before .before .before .loop .inv) (c .before .before .before .seek .ensures (z .args .kind) (z .args .labels .now) (z .args .parts .now) (of-kind (c .before .before .before .before .before .before .before .base-of .ensures .0) (c .before .before .before .before .loop .inv .inside)) (drawn-of (z .pre .1 .0))) (omega arith) (omega arith)), λ y. absurd (true≢false (sym y ∙ c .none .ensures .0)))
 
 sub-d : tie.Need-sub-d Inv-loop μ-loop
 sub-d c = omega arith
@@ -133,15 +166,15 @@ add-lo-3 c = omega arith
 
 loop-less-3 : tie.Need-loop-less-3 Inv-loop μ-loop
 loop-less-3 c =
-    let z = c .before .before .before .before .before .before .before .before .before .before .before .before .before .before .before in
+    let z = c .before .before .before .before .before .before .before .before .before .before .before .before .before .before .before .before in
     let o = c .before .before .before .before .loop in
-    rw (c .wide2 .ensures .0) (less-carry (z .args .n) (c .before .before .before .before .before .before .before .corners-of .result) (o .t) (o .d) (o .lo) (omega arith))
+    rw (c .wide2 .ensures .0) (less-carry (z .args .n) (c .before .before .before .before .before .before .before .before .corners-of .result) (o .t) (o .d) (o .lo) (omega arith))
 
 loop-again-3 : tie.Need-loop-again-3 Inv-loop μ-loop
 loop-again-3 c =
-    let z = c .before .before .before .before .before .before .before .before .before .before .before .before .before .before .before in
+    let z = c .before .before .before .before .before .before .before .before .before .before .before .before .before .before .before .before in
     let w = laws-of (sought-of (z .pre .1 .0)) (z .args .kind) (z .args .mark) (z .args .labels .now) (z .args .parts .now) in
-    rw (c .wide2 .ensures .0) (carry w (c .before .before .before .before .loop .inv) (c .before .before .before .seek .ensures (z .args .labels .now) (z .args .parts .now) (drawn-of (z .pre .1 .0))) (omega arith) (omega arith))
+    rw (c .wide2 .ensures .0) (carry w (c .before .before .before .before .loop .inv) (c .before .before .before .seek .ensures (z .args .kind) (z .args .labels .now) (z .args .parts .now) (of-kind (c .before .before .before .before .before .before .before .base-of .ensures .0) (c .before .before .before .before .loop .inv .inside)) (drawn-of (z .pre .1 .0))) (omega arith) (omega arith))
 
 pub next-spec : {M : Type 1} → statement M
 next-spec =
@@ -150,12 +183,17 @@ next-spec =
     Inv-loop
     μ-loop
     corners-of-requires
+    base-of-requires
+    sub-t22
+    add-t23
+    sub-wide
     start-requires
     mul-wide
     array-read-wide
     wide-requires
     add-lo
     loop-holds
+    add-t29
     seek-requires
     cast-t
     mul-t

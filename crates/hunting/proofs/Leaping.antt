@@ -2,27 +2,19 @@
 -- Assumes nothing.
 use Prim.Native.Nat.{ℕ, _+_, _-_, _<_, _≤_}
 use mathlib.Core.Path.{_≡_, sym, _∙_, subst}
-use mathlib.Core.Logic.{inl, inr, ⊎-elim}
+use mathlib.Core.Logic.{⊎-elim}
 use mathlib.Core.Bool.{Bool, true, false, not, true≢false}
 use mathlib.Core.List.{List}
 use native.Mathlib.Omega.{arith}
 use native.Mathlib.Decide.{decLt}
 use borrow.Author.Tests.{not-true}
 use lib.IntN.{ℤ}
-use lib.ListN.{set}
 use Rattle.reaching.specs.declared.Edge.{Edge}
 use Rattle.reaching.specs.Reaching.{Closes, Least}
-use Rattle.levels.specs.Fits.{fits}
-use Rattle.aims.specs.Aims.{edgeAt, Follows, LinksFirst, Aims, Fit, Goes, Stops}
-
--- ── what links the first three ──
-
-pub aims-of : {P Q : ℕ → Type 0} {x : ℕ} {some both : Bool} {o p : ℕ} → ((y : ℕ) → P y → Q y) → Aims Q x some both o p → Aims P x some both o p
-aims-of f a = record {
-  none = λ e. let n = a .none e in (n .0, λ y p. n .1 y (f y p));
-  each = λ e. let n = a .each e in (n .0, ⊎-elim inl (λ m. inr (⊎-elim inl (λ k. inr (k .0, λ y p. k .1 y (f y p))) m)) (n .1));
-  either = λ e. let n = a .either e in (n .0, ⊎-elim inl (λ k. inr (k .0, λ y p. k .1 y (f y p))) (n .1));
-}
+use Rattle.levels.specs.declared.Place.{Place}
+use Rattle.levels.specs.Fits.{fitsWith}
+use Rattle.aims.specs.Aims.{LinksFirst, Aims}
+use Rattle.hunting.specs.Goes.{edgeAt, Follows, Fit, Goes, Stops}
 
 -- ── a leap ──
 
@@ -103,21 +95,19 @@ hunt-less {asked} {n} {v} {r} b h l = elim (decLt r n) [ yes i ↦ omega (arith,
 
 -- ── one vertex ──
 
-module _ (zs : List ℤ) (ms : List ℕ) (x d : ℕ) (t : List ℕ) where
-  pub stops-fit : {n v : ℕ} {r : Bool} → r ≡ fits zs ms x d (set t d v) → Stops (Fit zs ms x d t) n v r
-  stops-fit {n} {v} {r} e = record { none = λ f h g. true≢false (sym (e ∙ g) ∙ f) }
+pub stops-fit : (zs : List ℤ) (ms : List ℕ) (place : Place) {n v : ℕ} {r : Bool} → r ≡ fitsWith zs ms place v → Stops (Fit zs ms place) n v r
+stops-fit zs ms place e = record { none = λ f h g. true≢false (sym (e ∙ g) ∙ f) }
 
-  pub stops-goes : {table : List ℕ} {n v : ℕ} {r : Bool} → Stops (Fit zs ms x d t) n v r → Stops (Goes zs n table ms x d t) n v r
-  stops-goes s = record { none = λ f h g. s .none f h (g .fit) }
+pub stops-goes : (zs : List ℤ) (ms : List ℕ) (place : Place) {table : List ℕ} {n v : ℕ} {r : Bool} → Stops (Fit zs ms place) n v r → Stops (Goes zs n table ms place) n v r
+stops-goes zs ms place s = record { none = λ f h g. s .none f h (g .fit) }
 
-module _ {zs : List ℤ} {n : ℕ} {table ms : List ℕ} {x d : ℕ} {t : List ℕ} where
-  module _ {some both : Bool} {o p : ℕ} (q : Aims (LinksFirst n table ms t) x some both o p) where
-    pub goes-follows : (v : ℕ) → Goes zs n table ms x d t v → Follows n table ms t x o p both v
-    goes-follows v g = g .follows some both o p q .1
+module _ {zs : List ℤ} {n : ℕ} {table ms : List ℕ} {place : Place} {some both : Bool} {o p : ℕ} (q : Aims (LinksFirst n table ms (place .tuple)) (place .row) some both o p) where
+  pub goes-follows : (v : ℕ) → Goes zs n table ms place v → Follows n table ms (place .tuple) (place .row) o p both v
+  goes-follows v g = g .follows some both o p q .1
 
-    pub hunt-none : {lo : ℕ} → not some ≡ true → Least (Goes zs n table ms x d t) lo n n
-    hunt-none e = record {
-      most = omega arith;
-      low = λ g. absurd (let z : ⊥ = omega arith in z);
-      least = λ v g h. absurd (true≢false (sym (g .follows some both o p q .0) ∙ not-true some e));
-    }
+  pub hunt-none : {lo : ℕ} → not some ≡ true → Least (Goes zs n table ms place) lo n n
+  hunt-none e = record {
+    most = omega arith;
+    low = λ g. absurd (let z : ⊥ = omega arith in z);
+    least = λ v g h. absurd (true≢false (sym (g .follows some both o p q .0) ∙ not-true some e));
+  }

@@ -1,7 +1,7 @@
--- `aims::edge_at` meets its contract. Assumes nothing.
+-- `hunting::edge_at` meets its contract. Assumes nothing.
 use borrow.Author.Needs.{needs}
-use Rattle.aims.proofs.edge_at.Statement.{statement}
-use Rattle.aims.proofs.edge_at.Tie as tie
+use Rattle.hunting.proofs.edge_at.Statement.{statement}
+use Rattle.hunting.proofs.edge_at.Tie as tie
 
 look-of-requires : tie.Need-look-of-requires
 look-of-requires c κs = search needs

@@ -1,10 +1,10 @@
--- `aims::leap` meets its contract. Assumes nothing.
+-- `hunting::leap` meets its contract. Assumes nothing.
 use mathlib.Core.Logic.{⊎-elim}
 use native.Mathlib.Omega.{arith}
-use Rattle.aims.proofs.Hunting.{leap-first, leap-each, leap-some}
+use Rattle.hunting.proofs.Leaping.{leap-first, leap-each, leap-some}
 use borrow.Author.Needs.{needs}
-use Rattle.aims.proofs.leap.Statement.{statement}
-use Rattle.aims.proofs.leap.Tie as tie
+use Rattle.hunting.proofs.leap.Statement.{statement}
+use Rattle.hunting.proofs.leap.Tie as tie
 
 edge-at-requires : tie.Need-edge-at-requires
 edge-at-requires c κs = search needs

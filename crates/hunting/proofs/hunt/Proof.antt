@@ -1,16 +1,16 @@
--- `aims::hunt` meets its contract. Assumes nothing.
+-- `hunting::hunt` meets its contract. Assumes nothing.
 use Prim.Native.Nat.{_-_}
 use native.Mathlib.Omega.{arith}
-use Rattle.aims.specs.Aims.{Goes}
-use Rattle.aims.proofs.Hunting.{Passed, passed-none, passed-next, hunted, hunted-none, hunt-less, hunt-none, goes-follows, stops-goes}
-use Rattle.aims.proofs.hunt.Statement.{statement}
-use Rattle.aims.proofs.hunt.Tie as tie
+use Rattle.hunting.specs.Goes.{Goes}
+use Rattle.hunting.proofs.Leaping.{Passed, passed-none, passed-next, hunted, hunted-none, hunt-less, hunt-none, goes-follows, stops-goes}
+use Rattle.hunting.proofs.hunt.Statement.{statement}
+use Rattle.hunting.proofs.hunt.Tie as tie
 
 abbrev Inv-loop : tie.InvT-loop
-Inv-loop tables coords n table marks t x d lo aim v₀ v = Passed (Goes coords n table marks x d t) n lo v
+Inv-loop tables coords n table marks place lo aim v₀ v = Passed (Goes coords n table marks place) n lo v
 
 abbrev μ-loop : tie.MeasureT-loop
-μ-loop tables coords n table marks t x d lo aim v₀ v = n - v
+μ-loop tables coords n table marks place lo aim v₀ v = n - v
 
 aim-at-requires : tie.Need-aim-at-requires Inv-loop μ-loop
 aim-at-requires c κs = let z = c .before .before .before in z .pre .1 .0 .1
@@ -24,7 +24,7 @@ loop-holds c = passed-none
 leap-requires : tie.Need-leap-requires Inv-loop μ-loop
 leap-requires c κs =
     let z = c .before .before .before .before .before .before .before .before in
-    (z .pre .0, ((z .pre .1 .0 .1, omega arith), z .pre .1 .1 .0))
+    (z .pre .0, ((z .pre .1 .0 .1, omega arith), z .pre .1 .1))
 
 goes-on-requires : tie.Need-goes-on-requires Inv-loop μ-loop
 goes-on-requires c κs =
@@ -49,7 +49,7 @@ loop-again : tie.Need-loop-again Inv-loop μ-loop
 loop-again c =
     let b = c .before .before in
     let l = b .before .before in
-    passed-next (l .loop .inv) (goes-follows (l .before .before .before .aim-at .ensures)) (b .leap .ensures) (omega arith) (stops-goes _ _ _ _ _ (c .before .goes-on .ensures)) (c .if2 .left)
+    passed-next (l .loop .inv) (goes-follows (l .before .before .before .aim-at .ensures)) (b .leap .ensures) (omega arith) (stops-goes _ _ _ (c .before .goes-on .ensures)) (c .if2 .left)
 
 returns-3 : tie.Need-returns-3 Inv-loop μ-loop
 returns-3 c = hunted-none (c .before .loop .inv) (omega arith)

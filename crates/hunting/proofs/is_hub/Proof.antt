@@ -1,10 +1,10 @@
--- `aims::is_hub` meets its contract. Assumes nothing.
+-- `hunting::is_hub` meets its contract. Assumes nothing.
 use mathlib.Core.Path.{sym, _∙_, ap}
 use mathlib.Core.Bool.{false≢true}
 use borrow.Author.Tests.{ne-eqb}
 use borrow.Author.Needs.{needs}
-use Rattle.aims.proofs.is_hub.Statement.{statement}
-use Rattle.aims.proofs.is_hub.Tie as tie
+use Rattle.hunting.proofs.is_hub.Statement.{statement}
+use Rattle.hunting.proofs.is_hub.Tie as tie
 
 look-of-requires : tie.Need-look-of-requires
 look-of-requires c κs = search needs

@@ -1,8 +1,8 @@
--- `aims::looks_ahead` meets its contract. Assumes nothing.
+-- `hunting::looks_ahead` meets its contract. Assumes nothing.
 use mathlib.Core.Bool.{false≢true}
 use borrow.Author.Needs.{needs}
-use Rattle.aims.proofs.looks_ahead.Statement.{statement}
-use Rattle.aims.proofs.looks_ahead.Tie as tie
+use Rattle.hunting.proofs.looks_ahead.Statement.{statement}
+use Rattle.hunting.proofs.looks_ahead.Tie as tie
 
 is-hub-requires : tie.Need-is-hub-requires
 is-hub-requires c κs = search needs
