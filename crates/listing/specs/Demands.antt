@@ -31,7 +31,8 @@ Demand2 f = refusal f ≡ 0 → Once (decoded f)
 
 -- ---- demand 3
 
--- calls of `portion` that are not refused, with these tables and rooms, each begun at the mark that the one before handed back: got is what they gave, laid end to end; over says whether the end was told, which ends the calls
+-- calls of `portion` that are not refused, with these tables and rooms, each begun at the mark that the one before
+-- handed back: got is what they gave, laid end to end; over says whether the end was told, which ends the calls
 pub data Called (f : List ℕ) : Mark → List (List ℕ) → List (List ℕ) → List ℕ → Bool → Mark → Type 0 where
   none : {k : Mark} → Called f k [] [] [] false k
   last : {k k′ : Mark} {table room table′ left : List ℕ} {n : ℕ} → Portioned f (markOf k) table room (Given n true k′) table′ left → Called f k (table ∷ []) (room ∷ []) (take (n * tetRule .size) left) true k′
@@ -47,5 +48,6 @@ pub record Demand3 (f : List ℕ) : Type 0 where
   pub answers : {k table room table′ left : List ℕ} {a : Answer} → refusal f ≡ 0 → length (tableOf (decoded f) (vertices f)) ≤ length table → tetRule .size ≤ length room → Portioned f k table room a table′ left → all (tetRule .fits) (take (length room / tetRule .size) (after tetRule (fullList (decoded f)) k)) ≡ true → answerNumber a ≡ 0
   -- and at nine zeros it gives no records, tells the end and hands back nine zeros
   pub ended : {table room table′ left : List ℕ} {a : Answer} → refusal f ≡ 0 → length (tableOf (decoded f) (vertices f)) ≤ length table → tetRule .size ≤ length room → Portioned f (tetRule .end) table room a table′ left → (says a ≡ given 0 true (tetRule .end)) × (left ≡ room)
-  -- so of an accepted file, if a record can hold each cell after the mark, calls come to the end whichever tables that suffice and rooms for a record are lent: one to a cell, or one, is enough
+  -- so calls come to the end, whichever tables that suffice and rooms for a record are lent, with no more of them than
+  -- there are cells after the mark, or one: the file is accepted, and a record can hold each of those cells
   pub reaches : (k : Mark) (tables rooms : List (List ℕ)) → refusal f ≡ 0 → length tables ≡ length rooms → all (λ table. leb (length (tableOf (decoded f) (vertices f))) (length table)) tables ≡ true → all (λ room. leb (tetRule .size) (length room)) rooms ≡ true → all (tetRule .fits) (after tetRule (fullList (decoded f)) (markOf k)) ≡ true → max 1 (length (after tetRule (fullList (decoded f)) (markOf k))) ≤ length rooms → (i : ℕ) × (got : List ℕ) × (k′ : Mark) × Called f k (take i tables) (take i rooms) got true k′

@@ -4,3 +4,4 @@ pub mod Law
 pub mod Tets
 pub mod Whole
 pub mod Reading
+pub mod Edges

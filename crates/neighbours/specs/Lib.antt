@@ -1,3 +1,4 @@
 pub mod Table
+pub mod Edges
 pub mod Grown
 pub mod Reading
