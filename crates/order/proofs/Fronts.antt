@@ -22,11 +22,14 @@ by-kind P x y z k = go (eqb k 8) (eqb k 6)
     go false true = y
     go false false = z
 
-pub letters-filled : (k : ℕ) (s : List ℕ) → eight (at s (cond (eqb k 8) (hexahedron .places) (templateOf k .places))) ≡ pad 8 0 (at s (templateOf k .places))
-letters-filled k s = by-kind (λ a t. eight (at s (cond a (hexahedron .places) (t .places))) ≡ pad 8 0 (at s (t .places))) refl refl refl k
+-- of the prism and the pyramid the two orders are one
+pub trimmed-letters : (b : Bool) (s : List ℕ) → eight (at s (cond b (prism .places) (pyramid .places))) ≡ pad 8 0 (at s (cond b prism pyramid .places))
+trimmed-letters true s = refl
+trimmed-letters false s = refl
 
-pub ordered-filled : (k : ℕ) (c : List ℕ) → eight (at c (cond (eqb k 8) (hexahedron .order) (templateOf k .places))) ≡ pad 8 0 (at c (templateOf k .order))
-ordered-filled k c = by-kind (λ a t. eight (at c (cond a (hexahedron .order) (t .places))) ≡ pad 8 0 (at c (t .order))) refl refl refl k
+pub trimmed-order : (b : Bool) (c : List ℕ) → eight (at c (cond b (prism .places) (pyramid .places))) ≡ pad 8 0 (at c (cond b prism pyramid .order))
+trimmed-order true c = refl
+trimmed-order false c = refl
 
 pub letters-front : (k : ℕ) (s : List ℕ) → take (templateOf k .corners) (pad 8 0 (at s (templateOf k .places))) ≡ at s (templateOf k .places)
 letters-front k s = by-kind (λ a t. take (t .corners) (pad 8 0 (at s (t .places))) ≡ at s (t .places)) refl refl refl k

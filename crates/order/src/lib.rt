@@ -5,7 +5,7 @@ ghost use mathlib.Core.Bool.{cond};
 ghost use Prim.Native.Nat.{_≤_};
 ghost use lib.Dec.{eqb};
 ghost use Rattle.base.specs.Lists.{pad};
-ghost use Rattle.templates.specs.Tables.{templateOf, at, eight};
+ghost use Rattle.templates.specs.Tables.{prism, pyramid, templateOf, at, eight};
 
 // Of a hexahedron the place of each corner in search order, and the corner at each place. Of the other kinds the two orders
 // are one.
@@ -27,13 +27,10 @@ pub fn corners_of(kind: u16) -> usize
     if kind == 6 { 6 } else { 5 }
 }
 
-// A tuple turned by the row of its kind, which of a hexahedron is lent.
-fn turned_as(kind: u16, c: &[u16], hex: &[u8]) -> [u16; 8]
-    ensures { λ r. ⌜ r ≡ eight (at (now (c .entry)) (cond (eqb kind 8) (now (hex .entry)) (templateOf kind .places))) ⌝ }
+// A tuple of a prism or a pyramid: 0 where the kind has no corner.
+fn trimmed(kind: u16, c: &[u16]) -> [u16; 8]
+    ensures { λ r. ⌜ r ≡ eight (at (now (c .entry)) (cond (eqb kind 6) (prism .places) (pyramid .places))) ⌝ }
 {
-    if kind == 8 {
-        return turned(c, hex);
-    }
     if kind == 6 {
         return turned(c, &PRISM_PLACES);
     }
@@ -44,12 +41,18 @@ fn turned_as(kind: u16, c: &[u16], hex: &[u8]) -> [u16; 8]
 pub fn letters(kind: u16, s: [u16; 8]) -> [u16; 8]
     ensures { λ r. ⌜ r ≡ pad 8 0 (at s (templateOf kind .places)) ⌝ }
 {
-    turned_as(kind, &s, &HEX_PLACES)
+    if kind == 8 {
+        return turned(&s, &HEX_PLACES);
+    }
+    trimmed(kind, &s)
 }
 
 // Letters as a tuple in search order, 0 where the kind has no corner.
 pub fn ordered(kind: u16, c: [u16; 8]) -> [u16; 8]
     ensures { λ r. ⌜ r ≡ pad 8 0 (at c (templateOf kind .order)) ⌝ }
 {
-    turned_as(kind, &c, &HEX_ORDER)
+    if kind == 8 {
+        return turned(&c, &HEX_ORDER);
+    }
+    trimmed(kind, &c)
 }

@@ -70,12 +70,11 @@ fn seek(
     if d == 0 {
         return lo;
     }
-    let t = place.tuple;
     let x = place.row;
     let from = rise(tables, place, lo);
-    let r = row_of(n, table, Vertex(t[joined_of(tables, x)]));
-    let q = row_of(n, table, Vertex(t[also_of(tables, x)]));
-    let s = row_of(n, table, Vertex(t[third_of(tables, x)]));
+    let r = row_of(n, table, Vertex(place.tuple[joined_of(tables, x)]));
+    let q = row_of(n, table, Vertex(place.tuple[also_of(tables, x)]));
+    let s = row_of(n, table, Vertex(place.tuple[third_of(tables, x)]));
     let f = nearer(tables, x, r, q);
     let one = fewer(f, s);
     if looks_ahead(tables, n, table, place, one.size) {
