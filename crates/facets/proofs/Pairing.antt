@@ -1,4 +1,5 @@
--- Where two tetrahedra at most stand at the place of a facet: no third has it, and no other clashes there. And the vertices of a facet are apart.
+-- Where two tetrahedra at most stand at the place of a facet: no third has it, and no other clashes there.
+-- And the vertices of a facet are apart.
 -- Assumes nothing.
 use mathlib.Core.Path.{_≡_, refl, sym, _∙_, ap}
 use mathlib.Core.Logic.{_⊎_, inl, inr, ⊎-elim}

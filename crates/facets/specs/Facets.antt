@@ -1,5 +1,6 @@
 -- What is asked of the tetrahedra of a mesh in working arrays that share a facet: refusals 8 and 9.
--- zs are the coordinates, three a vertex; ls the labels, four a tetrahedron; e and m are numbers of tetrahedra, a, b, c, u, v, w numbers of vertices.
+-- zs are the coordinates, three a vertex; ls the labels, four a tetrahedron; e and m are numbers of tetrahedra,
+-- a, b, c, u, v, w numbers of vertices.
 -- Assumes nothing.
 use Prim.Native.Nat.{ℕ, _+_, _*_, _/_, _<_}
 use mathlib.Core.Path.{_≡_}

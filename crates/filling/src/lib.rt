@@ -41,7 +41,8 @@ fn push(f: Tets, e: Tet) -> Tets
     Tets { count: k + 1, list }
 }
 
-// What was seen in a row: the least, and the place that the row is read up to. No tetrahedron before that place is asked for again.
+// What was seen in a row: the least, and the place that the row is read up to. No tetrahedron before that place is asked
+// for again.
 struct Seen {
     least: usize,
     at: usize,
@@ -54,7 +55,8 @@ struct Span {
     hi: usize,
 }
 
-// The least of a row's tetrahedra that is one of the cell's and not below lo; hi where none below hi is. The row rises, so the first is it.
+// The least of a row's tetrahedra that is one of the cell's and not below lo; hi where none below hi is. The row rises,
+// so the first is it.
 fn least_in(labels: &[u16], row: &[u16], s: Span, m: &[u8; 512], c: &[u16], quads: &[u8]) -> Seen
     requires { ⌜ Within (length (now labels) / 4) (now row) × Rising (now row) ⌝ }
     requires { ⌜ Stamped (now c) (length (now c)) (now m) × Passed (owns (now labels) (fours (now quads)) (now c)) (s .lo) (now row) (s .from) ⌝ }
@@ -120,7 +122,8 @@ fn crowd_at(
     }
 }
 
-// The corners to leave out: of the quadrilaterals, one whose corners have the most. The choice is a matter of speed alone.
+// The corners to leave out: of the quadrilaterals, one whose corners have the most. The choice is a matter of speed
+// alone.
 fn crowd_of(
     labels: &[u16],
     n: usize,
@@ -203,8 +206,8 @@ fn put_place(places: &mut [usize], k: usize, at: usize)
     }
 }
 
-// The next of the cell's tetrahedra, from lo on; the number of all where there is none. Each has a corner of the cell that is not left out,
-// so it is looked for around these, in each row from its place on.
+// The next of the cell's tetrahedra, from lo on; the number of all where there is none. Each has a corner of the cell
+// that is not left out, so it is looked for around these, in each row from its place on.
 fn next(
     labels: &[u16],
     n: usize,
