@@ -1,4 +1,5 @@
--- Where two tetrahedra at most stand at the place of a facet: no third has it, and no other clashes there. And the vertices of a facet are apart.
+-- Where two tetrahedra at most stand at the place of a facet: no third has it, and no other clashes there.
+-- And the vertices of a facet are apart.
 -- Assumes nothing.
 use mathlib.Core.Path.{_≡_, refl, sym, _∙_, ap}
 use mathlib.Core.Logic.{_⊎_, inl, inr, ⊎-elim}
@@ -17,7 +18,8 @@ use Rattle.space.specs.Arrays.{row4}
 use Rattle.around.specs.Index.{Labelled, hasAll, sharers}
 use Rattle.pairs.specs.declared.Pair.{Pair}
 use Rattle.pairs.specs.Pairs.{Names}
-use Rattle.facets.specs.Facets.{full, clashes, clashing, Tries}
+use Rattle.facets.specs.declared.Facet.{Facet}
+use Rattle.facets.specs.Facets.{atFacet, full, clashes, clashing, Tries}
 use Rattle.tets.proofs.Labelled.{none-at}
 use Rattle.facets.proofs.Tests.{clash-has}
 
@@ -72,30 +74,33 @@ some-at q t j h e = go (any q (upTo t)) refl
     go true f = f
     go false f = absurd (false≢true (sym (none-at q t j f h) ∙ e))
 
-module _ {zs : List ℤ} {ls : List ℕ} {e u a b c : ℕ} where
+abbrev clash : List ℤ → List ℕ → Facet → ℕ → Bool
+clash zs ls v = atFacet (clashes zs ls (v .e .0)) v
+
+module _ {zs : List ℤ} {ls : List ℕ} {v : Facet} where
   -- x names no tetrahedron
-  pub tries-none : {x : ℕ} → ((m : ℕ) → m < length ls / 4 → x ≡ m + 1 → ⊥) → Tries zs ls e u a b c x false
+  pub tries-none : {x : ℕ} → ((m : ℕ) → m < length ls / 4 → x ≡ m + 1 → ⊥) → Tries zs ls v x false
   tries-none n = record { found = λ m h f t. absurd (n m h f); some = λ f. absurd (false≢true f) }
 
-  pub tries-one : {x : ℕ} {r : Bool} → 0 < x → x - 1 < length ls / 4 → r ≡ clashes zs ls e u a b c (x - 1) → Tries zs ls e u a b c x r
+  pub tries-one : {x : ℕ} {r : Bool} → 0 < x → x - 1 < length ls / 4 → r ≡ clash zs ls v (x - 1) → Tries zs ls v x r
   unfolding clashing
   tries-one {x} p h f = record {
-    found = λ m l g t. f ∙ ap (clashes zs ls e u a b c) (let i : x - 1 ≡ m = omega arith in i) ∙ t;
-    some = λ t. some-at (clashes zs ls e u a b c) (length ls / 4) (x - 1) h (sym f ∙ t);
+    found = λ m l g t. f ∙ ap (clash zs ls v) (let i : x - 1 ≡ m = omega arith in i) ∙ t;
+    some = λ t. some-at (clash zs ls v) (length ls / 4) (x - 1) h (sym f ∙ t);
   }
 
   -- of two that are tried, the second decides where the first is not it
-  pub tries-two : {p : Pair} {r s : Bool} → Names ls a b c p → p .many ≡ false → Tries zs ls e u a b c (p .one) r → r ≡ false → Tries zs ls e u a b c (p .two) s → s ≡ clashing zs ls e u a b c
+  pub tries-two : {p : Pair} {r s : Bool} → Names ls (v .a .0) (v .b .0) (v .c .0) p → p .many ≡ false → Tries zs ls v (p .one) r → r ≡ false → Tries zs ls v (p .two) s → s ≡ atFacet (clashing zs ls (v .e .0)) v
   unfolding clashing
-  tries-two {p} {r} {s} n w f g h = go s refl (any (clashes zs ls e u a b c) (upTo (length ls / 4))) refl
+  tries-two {p} {r} {s} n w f g h = go s refl (any (clash zs ls v) (upTo (length ls / 4))) refl
     where
-      go : (s′ : Bool) → s ≡ s′ → (d : Bool) → any (clashes zs ls e u a b c) (upTo (length ls / 4)) ≡ d → s ≡ any (clashes zs ls e u a b c) (upTo (length ls / 4))
+      go : (s′ : Bool) → s ≡ s′ → (d : Bool) → any (clash zs ls v) (upTo (length ls / 4)) ≡ d → s ≡ any (clash zs ls v) (upTo (length ls / 4))
       go true i d j = i ∙ sym (h .some i)
       go false i false j = i ∙ sym j
       go false i true j =
-          let m = any-at (clashes zs ls e u a b c) (upTo (length ls / 4)) j in
+          let m = any-at (clash zs ls v) (upTo (length ls / 4)) j in
           let l = from-at 0 (length ls / 4) (m .1) .1 in
-          absurd (⊎-elim (λ k. false≢true (sym g ∙ f .found (m .0) (omega arith) k (m .2))) (λ k. false≢true (sym i ∙ h .found (m .0) (omega arith) k (m .2))) (n .among w (m .0) (omega arith) (clash-has zs ls e u a b c (m .0) (m .2))))
+          absurd (⊎-elim (λ k. false≢true (sym g ∙ f .found (m .0) (omega arith) k (m .2))) (λ k. false≢true (sym i ∙ h .found (m .0) (omega arith) k (m .2))) (n .among w (m .0) (omega arith) (clash-has zs ls (v .e .0) (v .u .0) (v .a .0) (v .b .0) (v .c .0) (m .0) (m .2))))
 
 -- ---- the vertices of a facet
 

@@ -16,32 +16,37 @@ use Rattle.space.specs.Box.{isAbove0}
 use Rattle.space.specs.Arrays.{row4, around}
 use Rattle.around.specs.Index.{hasAll, fewest}
 use Rattle.around.proofs.Around.{any-around, fewest-held}
-use Rattle.facets.specs.Facets.{someFacet, isBelow0, opposite, astray, clashes, clashing}
+use Rattle.space.specs.declared.Tet.{Tet}
+use Rattle.facets.specs.declared.Facet.{Facet}
+use Rattle.facets.specs.Facets.{facetOf, atFacet, someFacet, isBelow0, opposite, astray, clashes, clashing}
 
 -- ---- `if` the test passes at one of the four facets
 
-module _ (q : ℕ → ℕ → ℕ → ℕ → Bool) (ls : List ℕ) (e : ℕ) {cs : List ℕ} (h : cs ≡ row4 ls e) where
-  -- the test at the facet of these places
-  abbrev pub test : List ℕ → ℕ → ℕ → ℕ → ℕ → Bool
-  test l i j k m = q (getD l i 0) (getD l j 0) (getD l k 0) (getD l m 0)
+module _ (q : ℕ → ℕ → ℕ → ℕ → ℕ → Bool) (ls : List ℕ) (e : Tet) {cs : List ℕ} (h : cs ≡ row4 ls (e .0)) where
+  abbrev pub test : Facet → Bool
+  test f = atFacet (q (f .e .0)) f
 
-  on : (i j k m : ℕ) {r : Bool} → r ≡ test cs i j k m → r ≡ test (row4 ls e) i j k m
-  on i j k m f = f ∙ ap (λ l. test l i j k m) h
+  -- the facet of these places, where the vertices of e are l
+  abbrev pub facetBy : List ℕ → ℕ → ℕ → ℕ → ℕ → Facet
+  facetBy l i j k m = facetOf e (record { 0 = getD l i 0 }) (record { 0 = getD l j 0 }) (record { 0 = getD l k 0 }) (record { 0 = getD l m 0 })
 
-  module _ {r1 : Bool} (f1 : r1 ≡ test cs 0 1 2 3) where
-    pub facet-1 : r1 ≡ true → true ≡ someFacet q ls e
-    facet-1 t = or-found (on 0 1 2 3 f1) t _
+  on : (i j k m : ℕ) {f : Facet} {r : Bool} → f ≡ facetBy cs i j k m → r ≡ test f → r ≡ test (facetBy (row4 ls (e .0)) i j k m)
+  on i j k m p t = t ∙ ap test p ∙ ap (λ l. test (facetBy l i j k m)) h
 
-    module _ {r2 : Bool} (n1 : r1 ≡ false) (f2 : r2 ≡ test cs 1 0 2 3) where
-      pub facet-2 : r2 ≡ true → true ≡ someFacet q ls e
-      facet-2 t = or-passes (on 0 1 2 3 f1) n1 (or-found (on 1 0 2 3 f2) t _)
+  module _ {f1 : Facet} {r1 : Bool} (p1 : f1 ≡ facetBy cs 0 1 2 3) (t1 : r1 ≡ test f1) where
+    pub facet-1 : r1 ≡ true → true ≡ someFacet (q (e .0)) ls (e .0)
+    facet-1 t = or-found (on 0 1 2 3 p1 t1) t _
 
-      module _ {r3 : Bool} (n2 : r2 ≡ false) (f3 : r3 ≡ test cs 2 0 1 3) where
-        pub facet-3 : r3 ≡ true → true ≡ someFacet q ls e
-        facet-3 t = or-passes (on 0 1 2 3 f1) n1 (or-passes (on 1 0 2 3 f2) n2 (or-found (on 2 0 1 3 f3) t _))
+    module _ {f2 : Facet} {r2 : Bool} (n1 : r1 ≡ false) (p2 : f2 ≡ facetBy cs 1 0 2 3) (t2 : r2 ≡ test f2) where
+      pub facet-2 : r2 ≡ true → true ≡ someFacet (q (e .0)) ls (e .0)
+      facet-2 t = or-passes (on 0 1 2 3 p1 t1) n1 (or-found (on 1 0 2 3 p2 t2) t _)
 
-        pub facet-4 : {r4 : Bool} → r3 ≡ false → r4 ≡ test cs 3 0 1 2 → r4 ≡ someFacet q ls e
-        facet-4 n3 f4 = or-passes (on 0 1 2 3 f1) n1 (or-passes (on 1 0 2 3 f2) n2 (or-passes (on 2 0 1 3 f3) n3 (on 3 0 1 2 f4)))
+      module _ {f3 : Facet} {r3 : Bool} (n2 : r2 ≡ false) (p3 : f3 ≡ facetBy cs 2 0 1 3) (t3 : r3 ≡ test f3) where
+        pub facet-3 : r3 ≡ true → true ≡ someFacet (q (e .0)) ls (e .0)
+        facet-3 t = or-passes (on 0 1 2 3 p1 t1) n1 (or-passes (on 1 0 2 3 p2 t2) n2 (or-found (on 2 0 1 3 p3 t3) t _))
+
+        pub facet-4 : {f4 : Facet} {r4 : Bool} → r3 ≡ false → f4 ≡ facetBy cs 3 0 1 2 → r4 ≡ test f4 → r4 ≡ someFacet (q (e .0)) ls (e .0)
+        facet-4 n3 p4 t4 = or-passes (on 0 1 2 3 p1 t1) n1 (or-passes (on 1 0 2 3 p2 t2) n2 (or-passes (on 2 0 1 3 p3 t3) n3 (on 3 0 1 2 p4 t4)))
 
 -- ---- signs
 

@@ -1,5 +1,6 @@
 -- What is asked of the tetrahedra of a mesh in working arrays that share a facet: refusals 8 and 9.
--- zs are the coordinates, three a vertex; ls the labels, four a tetrahedron; e and m are numbers of tetrahedra, a, b, c, u, v, w numbers of vertices.
+-- zs are the coordinates, three a vertex; ls the labels, four a tetrahedron; e and m are numbers of tetrahedra,
+-- a, b, c, u, v, w numbers of vertices.
 -- Assumes nothing.
 use Prim.Native.Nat.{ℕ, _+_, _*_, _/_, _<_}
 use mathlib.Core.Path.{_≡_}
@@ -13,6 +14,9 @@ use Rattle.space.specs.Box.{isAbove0}
 use Rattle.space.specs.Arrays.{row4}
 use Rattle.around.specs.Index.{hasAll, sharers}
 use Rattle.tets.specs.Tets.{someTet, boxAt}
+use Rattle.space.specs.declared.Vertex.{Vertex}
+use Rattle.space.specs.declared.Tet.{Tet}
+use Rattle.facets.specs.declared.Facet.{Facet}
 
 -- the test passes at some facet of tetrahedron e; it is given the fourth vertex, then the facet's three
 abbrev pub someFacet : (ℕ → ℕ → ℕ → ℕ → Bool) → List ℕ → ℕ → Bool
@@ -53,11 +57,6 @@ clashes zs ls e u a b c m =
 unfoldable pub clashing : List ℤ → List ℕ → ℕ → ℕ → ℕ → ℕ → ℕ → Bool
 clashing zs ls e u a b c = someTet ls (clashes zs ls e u a b c)
 
--- r is true where m clashes and x is its number plus one, and true only where some tetrahedron clashes
-pub record Tries (zs : List ℤ) (ls : List ℕ) (e u a b c x : ℕ) (r : Bool) : Type 0 where
-  pub found : (m : ℕ) → m < length ls / 4 → x ≡ m + 1 → clashes zs ls e u a b c m ≡ true → r ≡ true
-  pub some : r ≡ true → clashing zs ls e u a b c ≡ true
-
 unfoldable pub folded : List ℤ → List ℕ → ℕ → Bool
 folded zs ls e = someFacet (clashing zs ls e) ls e
 
@@ -70,3 +69,16 @@ anyCrowded ls = someTet ls (crowded ls)
 -- 9: two tetrahedra share a facet, and their fourth vertices are not strictly on its opposite sides
 abbrev pub anyFolded : List ℤ → List ℕ → Bool
 anyFolded zs ls = someTet ls (folded zs ls)
+
+-- ---- the same at a facet as the code hands it on
+
+abbrev pub facetOf : Tet → Vertex → Vertex → Vertex → Vertex → Facet
+facetOf e u a b c = record { e = e; u = u; a = a; b = b; c = c }
+
+abbrev pub atFacet : {A : Type 0} → (ℕ → ℕ → ℕ → ℕ → A) → Facet → A
+atFacet q f = q (f .u .0) (f .a .0) (f .b .0) (f .c .0)
+
+-- r is true where m clashes and x is its number plus one, and true only where some tetrahedron clashes
+pub record Tries (zs : List ℤ) (ls : List ℕ) (f : Facet) (x : ℕ) (r : Bool) : Type 0 where
+  pub found : (m : ℕ) → m < length ls / 4 → x ≡ m + 1 → atFacet (clashes zs ls (f .e .0)) f m ≡ true → r ≡ true
+  pub some : r ≡ true → atFacet (clashing zs ls (f .e .0)) f ≡ true

@@ -18,32 +18,44 @@ ghost use Rattle.space.specs.Arrays.{Close, row4};
 ghost use Rattle.around.specs.Index.{Indexed};
 ghost use Rattle.around.specs.Build.{Within};
 ghost use Rattle.pairs.specs.Pairs.{Paired};
-ghost use Rattle.facets.specs.Facets.{opposite, full, crowded, astray, clashes, clashing, Tries, folded, anyCrowded, anyFolded};
+ghost use Rattle.facets.specs.Facets.{facetOf, atFacet, opposite, full, crowded, astray, clashes, clashing, Tries, folded, anyCrowded, anyFolded};
+
+// A facet a, b, c of the tetrahedron e, and its fourth vertex u.
+struct Facet {
+    e: Tet,
+    u: Vertex,
+    a: Vertex,
+    b: Vertex,
+    c: Vertex,
+}
+
+fn facet_of(e: Tet, u: Vertex, a: Vertex, b: Vertex, c: Vertex) -> Facet
+    ensures { λ r. ⌜ r ≡ facetOf e u a b c ⌝ }
+{
+    Facet { e, u, a, b, c }
+}
 
 // ---- 8
 
-// Three or more tetrahedra have the facet a, b, c: where two at most stand at its place, there are no more.
+// Three or more tetrahedra have the facet: where two at most stand at its place, there are no more.
 fn is_full(
     labels: &[u16],
     n: usize,
     offsets: &[u16],
     entries: &[u16],
     pairs: &[u16],
-    u: Vertex,
-    a: Vertex,
-    b: Vertex,
-    c: Vertex,
+    f: Facet,
 ) -> bool
     requires { ⌜ Indexed (now labels) n (now offsets) (now entries) ⌝ }
     requires { ⌜ Paired (now labels) (now pairs) ⌝ }
-    requires { ⌜ distinct (a .0 ∷ b .0 ∷ c .0 ∷ []) ≡ true ⌝ }
-    ensures { λ r. ⌜ r ≡ full (now (labels .entry)) (u .0) (a .0) (b .0) (c .0) ⌝ }
+    requires { ⌜ distinct (f .a .0 ∷ f .b .0 ∷ f .c .0 ∷ []) ≡ true ⌝ }
+    ensures { λ r. ⌜ r ≡ atFacet (full (now (labels .entry))) f ⌝ }
 {
-    let pair = pair_of(labels, pairs, a, b, c);
+    let pair = pair_of(labels, pairs, f.a, f.b, f.c);
     if !pair.many {
         return false;
     }
-    3 <= sharing(labels, n, offsets, entries, a, b, c)
+    3 <= sharing(labels, n, offsets, entries, f.a, f.b, f.c)
 }
 
 fn is_crowded(
@@ -64,16 +76,20 @@ fn is_crowded(
     let b = Vertex(v[1]);
     let c = Vertex(v[2]);
     let d = Vertex(v[3]);
-    if is_full(labels, n, offsets, entries, pairs, a, b, c, d) {
+    let f = facet_of(e, a, b, c, d);
+    if is_full(labels, n, offsets, entries, pairs, f) {
         return true;
     }
-    if is_full(labels, n, offsets, entries, pairs, b, a, c, d) {
+    let g = facet_of(e, b, a, c, d);
+    if is_full(labels, n, offsets, entries, pairs, g) {
         return true;
     }
-    if is_full(labels, n, offsets, entries, pairs, c, a, b, d) {
+    let h = facet_of(e, c, a, b, d);
+    if is_full(labels, n, offsets, entries, pairs, h) {
         return true;
     }
-    is_full(labels, n, offsets, entries, pairs, d, a, b, c)
+    let k = facet_of(e, d, a, b, c);
+    is_full(labels, n, offsets, entries, pairs, k)
 }
 
 // ---- 9
@@ -90,92 +106,69 @@ fn is_opposite(x: i64, y: i64) -> bool
     false
 }
 
-// The vertex w is off the facet a, b, c and not strictly beyond it, seen from u.
-fn is_astray(coords: &[i64], u: Vertex, a: Vertex, b: Vertex, c: Vertex, w: Vertex) -> bool
+// The vertex w is off the facet and not strictly beyond it, seen from the fourth vertex.
+fn is_astray(coords: &[i64], f: Facet, w: Vertex) -> bool
     requires { ⌜ Close (now coords) ⌝ }
-    ensures { λ r. ⌜ r ≡ astray (now (coords .entry)) (u .0) (a .0) (b .0) (c .0) (w .0) ⌝ }
+    ensures { λ r. ⌜ r ≡ atFacet (astray (now (coords .entry))) f (w .0) ⌝ }
 {
     let x = w.0;
-    if x == a.0 {
+    if x == f.a.0 {
         return false;
     }
-    if x == b.0 {
+    if x == f.b.0 {
         return false;
     }
-    if x == c.0 {
+    if x == f.c.0 {
         return false;
     }
-    !is_opposite(box_at(coords, a, b, c, u), box_at(coords, a, b, c, w))
+    !is_opposite(
+        box_at(coords, f.a, f.b, f.c, f.u),
+        box_at(coords, f.a, f.b, f.c, w),
+    )
 }
 
-fn has_astray(
-    coords: &[i64],
-    labels: &[u16],
-    u: Vertex,
-    a: Vertex,
-    b: Vertex,
-    c: Vertex,
-    m: Tet,
-) -> bool
+fn has_astray(coords: &[i64], labels: &[u16], f: Facet, m: Tet) -> bool
     requires { ⌜ Close (now coords) ⌝ }
     requires { ⌜ m .0 < length (now labels) / 4 ⌝ }
-    ensures { λ r. ⌜ r ≡ any (astray (now (coords .entry)) (u .0) (a .0) (b .0) (c .0)) (row4 (now (labels .entry)) (m .0)) ⌝ }
+    ensures { λ r. ⌜ r ≡ any (atFacet (astray (now (coords .entry))) f) (row4 (now (labels .entry)) (m .0)) ⌝ }
 {
     let v = corners(labels, m);
-    if is_astray(coords, u, a, b, c, Vertex(v[0])) {
+    if is_astray(coords, f, Vertex(v[0])) {
         return true;
     }
-    if is_astray(coords, u, a, b, c, Vertex(v[1])) {
+    if is_astray(coords, f, Vertex(v[1])) {
         return true;
     }
-    if is_astray(coords, u, a, b, c, Vertex(v[2])) {
+    if is_astray(coords, f, Vertex(v[2])) {
         return true;
     }
-    is_astray(coords, u, a, b, c, Vertex(v[3]))
+    is_astray(coords, f, Vertex(v[3]))
 }
 
-fn does_clash(
-    coords: &[i64],
-    labels: &[u16],
-    e: Tet,
-    u: Vertex,
-    a: Vertex,
-    b: Vertex,
-    c: Vertex,
-    m: Tet,
-) -> bool
+fn does_clash(coords: &[i64], labels: &[u16], f: Facet, m: Tet) -> bool
     requires { ⌜ Close (now coords) ⌝ }
     requires { ⌜ m .0 < length (now labels) / 4 ⌝ }
-    ensures { λ r. ⌜ r ≡ clashes (now (coords .entry)) (now (labels .entry)) (e .0) (u .0) (a .0) (b .0) (c .0) (m .0) ⌝ }
+    ensures { λ r. ⌜ r ≡ atFacet (clashes (now (coords .entry)) (now (labels .entry)) (f .e .0)) f (m .0) ⌝ }
 {
-    if m.0 == e.0 {
+    if m.0 == f.e.0 {
         return false;
     }
-    if !tet_has3(labels, m, a, b, c) {
+    if !tet_has3(labels, m, f.a, f.b, f.c) {
         return false;
     }
-    has_astray(coords, labels, u, a, b, c, m)
+    has_astray(coords, labels, f, m)
 }
 
-// Some tetrahedron of the row clashes with e.
-fn any_clash(
-    coords: &[i64],
-    labels: &[u16],
-    row: &[u16],
-    e: Tet,
-    u: Vertex,
-    a: Vertex,
-    b: Vertex,
-    c: Vertex,
-) -> bool
+// Some tetrahedron of the row clashes with e at the facet.
+fn any_clash(coords: &[i64], labels: &[u16], row: &[u16], f: Facet) -> bool
     requires { ⌜ Close (now coords) ⌝ }
     requires { ⌜ Within (length (now labels) / 4) (now row) ⌝ }
-    ensures { λ r. ⌜ r ≡ any (clashes (now (coords .entry)) (now (labels .entry)) (e .0) (u .0) (a .0) (b .0) (c .0)) (now (row .entry)) ⌝ }
+    ensures { λ r. ⌜ r ≡ any (atFacet (clashes (now (coords .entry)) (now (labels .entry)) (f .e .0)) f) (now (row .entry)) ⌝ }
 {
     let mut k = 0;
     while k < row.len() {
         let m = row[k];
-        if does_clash(coords, labels, e, u, a, b, c, Tet(m)) {
+        if does_clash(coords, labels, f, Tet(m)) {
             return true;
         }
         k += 1;
@@ -183,43 +176,30 @@ fn any_clash(
     false
 }
 
-// Some tetrahedron clashes with e at the facet a, b, c; it is looked for around the rarest of the three.
+// Some tetrahedron clashes with e at the facet; it is looked for around the rarest of the three.
 fn clashes_around(
     coords: &[i64],
     labels: &[u16],
     n: usize,
     offsets: &[u16],
     entries: &[u16],
-    e: Tet,
-    u: Vertex,
-    a: Vertex,
-    b: Vertex,
-    c: Vertex,
+    f: Facet,
 ) -> bool
     requires { ⌜ Close (now coords) ⌝ }
     requires { ⌜ Indexed (now labels) n (now offsets) (now entries) ⌝ }
-    ensures { λ r. ⌜ r ≡ clashing (now (coords .entry)) (now (labels .entry)) (e .0) (u .0) (a .0) (b .0) (c .0) ⌝ }
+    ensures { λ r. ⌜ r ≡ atFacet (clashing (now (coords .entry)) (now (labels .entry)) (f .e .0)) f ⌝ }
 {
-    let x = rarest(labels, n, offsets, entries, a, b, c);
+    let x = rarest(labels, n, offsets, entries, f.a, f.b, f.c);
     let row = row_of(labels, n, offsets, entries, x);
     let from = row.from;
     let end = from + row.size;
-    any_clash(coords, labels, &entries[from..end], e, u, a, b, c)
+    any_clash(coords, labels, &entries[from..end], f)
 }
 
 // The tetrahedron whose number plus one is x clashes with e. There may be none.
-fn clashes_named(
-    coords: &[i64],
-    labels: &[u16],
-    e: Tet,
-    u: Vertex,
-    a: Vertex,
-    b: Vertex,
-    c: Vertex,
-    x: u16,
-) -> bool
+fn clashes_named(coords: &[i64], labels: &[u16], f: Facet, x: u16) -> bool
     requires { ⌜ Close (now coords) ⌝ }
-    ensures { λ r. ⌜ Tries (now (coords .entry)) (now (labels .entry)) (e .0) (u .0) (a .0) (b .0) (c .0) x r ⌝ }
+    ensures { λ r. ⌜ Tries (now (coords .entry)) (now (labels .entry)) f x r ⌝ }
 {
     let t = labels.len() / 4;
     if x == 0 {
@@ -229,10 +209,10 @@ fn clashes_named(
     if t <= m as usize {
         return false;
     }
-    does_clash(coords, labels, e, u, a, b, c, Tet(m))
+    does_clash(coords, labels, f, Tet(m))
 }
 
-// Some tetrahedron clashes with e at the facet a, b, c: where two at most stand at its place, only those are tried.
+// Some tetrahedron clashes with e at the facet: where two at most stand at its place, only those are tried.
 fn is_clashing(
     coords: &[i64],
     labels: &[u16],
@@ -240,26 +220,22 @@ fn is_clashing(
     offsets: &[u16],
     entries: &[u16],
     pairs: &[u16],
-    e: Tet,
-    u: Vertex,
-    a: Vertex,
-    b: Vertex,
-    c: Vertex,
+    f: Facet,
 ) -> bool
     requires { ⌜ Close (now coords) ⌝ }
     requires { ⌜ Indexed (now labels) n (now offsets) (now entries) ⌝ }
     requires { ⌜ Paired (now labels) (now pairs) ⌝ }
-    requires { ⌜ distinct (a .0 ∷ b .0 ∷ c .0 ∷ []) ≡ true ⌝ }
-    ensures { λ r. ⌜ r ≡ clashing (now (coords .entry)) (now (labels .entry)) (e .0) (u .0) (a .0) (b .0) (c .0) ⌝ }
+    requires { ⌜ distinct (f .a .0 ∷ f .b .0 ∷ f .c .0 ∷ []) ≡ true ⌝ }
+    ensures { λ r. ⌜ r ≡ atFacet (clashing (now (coords .entry)) (now (labels .entry)) (f .e .0)) f ⌝ }
 {
-    let pair = pair_of(labels, pairs, a, b, c);
+    let pair = pair_of(labels, pairs, f.a, f.b, f.c);
     if pair.many {
-        return clashes_around(coords, labels, n, offsets, entries, e, u, a, b, c);
+        return clashes_around(coords, labels, n, offsets, entries, f);
     }
-    if clashes_named(coords, labels, e, u, a, b, c, pair.one) {
+    if clashes_named(coords, labels, f, pair.one) {
         return true;
     }
-    clashes_named(coords, labels, e, u, a, b, c, pair.two)
+    clashes_named(coords, labels, f, pair.two)
 }
 
 fn is_folded(
@@ -282,16 +258,20 @@ fn is_folded(
     let b = Vertex(v[1]);
     let c = Vertex(v[2]);
     let d = Vertex(v[3]);
-    if is_clashing(coords, labels, n, offsets, entries, pairs, e, a, b, c, d) {
+    let f = facet_of(e, a, b, c, d);
+    if is_clashing(coords, labels, n, offsets, entries, pairs, f) {
         return true;
     }
-    if is_clashing(coords, labels, n, offsets, entries, pairs, e, b, a, c, d) {
+    let g = facet_of(e, b, a, c, d);
+    if is_clashing(coords, labels, n, offsets, entries, pairs, g) {
         return true;
     }
-    if is_clashing(coords, labels, n, offsets, entries, pairs, e, c, a, b, d) {
+    let h = facet_of(e, c, a, b, d);
+    if is_clashing(coords, labels, n, offsets, entries, pairs, h) {
         return true;
     }
-    is_clashing(coords, labels, n, offsets, entries, pairs, e, d, a, b, c)
+    let k = facet_of(e, d, a, b, c);
+    is_clashing(coords, labels, n, offsets, entries, pairs, k)
 }
 
 // ---- over all tetrahedra

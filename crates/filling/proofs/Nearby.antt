@@ -1,7 +1,6 @@
 -- The next of a cell's tetrahedra, looked for around its corners. Assumes nothing.
 use mathlib.Core.Path.{_≡_, refl, sym, _∙_, ap}
 use mathlib.Core.Bool.{Bool, true, false, _&&_, _||_, not, false≢true}
-use mathlib.Core.Logic.{⊎-elim}
 use mathlib.Core.List.{List, [], _∷_, List·Memᴰ, List·Memᴰ·head, List·Memᴰ·tail}
 use Prim.Native.Nat.{ℕ, zero, suc, _+_, _*_, _-_, _/_, _≤_, _<_}
 use native.Mathlib.Nat.{add-zero}
@@ -24,7 +23,7 @@ use Rattle.templates.proofs.Tests.{any-from}
 use Rattle.filling.specs.declared.Tets.{Tets}
 use Rattle.own.specs.Stamps.{Hit}
 use Rattle.own.proofs.Stamps.{place-in}
-use Rattle.filling.specs.Next.{Rising, Least, Passed, Next, Aside, Visited, NextOf, Reached}
+use Rattle.filling.specs.Next.{Rising, Least, Passed, Next, Aside, NextOf, Reached}
 use Rattle.filling.proofs.Found.{FoundUp, keep-skip}
 
 pub place-around : (ls : List ℕ) (v j : ℕ) → j < length ls / 4 → isIn v (row4 ls j) ≡ true → (p : ℕ) × (p < length (around ls v)) × (getD (around ls v) p 0 ≡ j)
@@ -98,7 +97,7 @@ module _ {b : ℕ → Bool} {ls c out : List ℕ} {lo hi k r : ℕ} (a : Next b 
   none-out f i j (yes h) g o t p q = a .none i j h o t p q
   none-out f i j (no h) g o t p q = let e : i ≡ k = omega arith in absurd (false≢true (sym (rw e at o) ∙ f))
 
-  next-out : isIn (getD c k 0) out ≡ true → Next b ls c lo hi (k + 1) out r
+  pub next-out : isIn (getD c k 0) out ≡ true → Next b ls c lo hi (k + 1) out r
   next-out f = record { le = a .le; is = a .is; none = λ i j. none-out f i j (decLt i k) }
 
   module _ {s : ℕ} (top : hi ≤ length ls / 4) (l : Least b lo r (around ls (getD c k 0)) (length (around ls (getD c k 0))) s) where
@@ -113,15 +112,12 @@ module _ {b : ℕ → Bool} {ls c out : List ℕ} {lo hi k r : ℕ} (a : Next b 
         let w = place-around ls (getD c k 0) j (omega (arith, top, a .le, l .le)) (rw e at t) in
         ap b (sym (w .2)) ∙ l .none (w .0) (w .1) (omega (arith, w .2)) (omega (arith, w .2))
 
-    next-corner : Next b ls c lo hi (k + 1) out s
+    pub next-corner : Next b ls c lo hi (k + 1) out s
     next-corner = record {
       le = omega (arith, a .le, l .le);
       is = is-corner (decLt s r);
       none = λ i j. none-corner i j (decLt i k);
     }
-
-pub next-visit : {b : ℕ → Bool} {ls c out : List ℕ} {lo hi k r s : ℕ} → hi ≤ length ls / 4 → Next b ls c lo hi k out r → Visited b lo r out (getD c k 0) (around ls (getD c k 0)) s → Next b ls c lo hi (k + 1) out s
-next-visit top a v = ⊎-elim (λ h. rw (h .1) (next-out a (h .0))) (λ h. next-corner a top h) (v .is)
 
 -- ---- the corners left out
 

@@ -10,7 +10,8 @@ use Rattle.base.specs.Lists.{pad}
 use Rattle.record.specs.Entries.{tetPlaces, unused}
 use Rattle.filling.specs.declared.Tets.{Tets}
 
--- these are the numbers found: how many, told also where there are more than a record has places for, and the first of them
+-- these are the numbers found: how many, told also where there are more than a record has places for, and the first
+-- of them
 pub record Found (xs : List ℕ) (f : Tets) : Type 0 where
   pub count : f .count ≡ length xs
   pub list : f .list ≡ pad tetPlaces unused (take tetPlaces xs)

@@ -4,7 +4,6 @@ use Prim.Native.Nat.{ℕ, _/_, _≤_, _<_}
 use mathlib.Core.Path.{_≡_}
 use mathlib.Core.Bool.{Bool, true, false}
 use mathlib.Core.List.{List, [], _∷_}
-use mathlib.Core.Logic.{_⊎_}
 use lib.ListN.{length, getD}
 use Rattle.base.specs.Lists.{all, isIn}
 use Rattle.space.specs.Arrays.{row4, around}
@@ -38,10 +37,6 @@ leftOut w = w .a ∷ w .b ∷ w .d ∷ w .e ∷ []
 -- no tetrahedron that passes b has all its vertices among those left out
 pub record Aside (b : ℕ → Bool) (ls out : List ℕ) : Type 0 where
   pub apart : (j : ℕ) → j < length ls / 4 → b j ≡ true → all (λ v. isIn v out) (row4 ls j) ≡ false
-
--- one vertex more, with this row: it is left out, or the least is taken with those of its row
-pub record Visited (b : ℕ → Bool) (lo hi : ℕ) (out : List ℕ) (v : ℕ) (row : List ℕ) (r : ℕ) : Type 0 where
-  pub is : ((isIn v out ≡ true) × (r ≡ hi)) ⊎ Least b lo hi row (length row) r
 
 -- the same among all
 pub record NextOf (b : ℕ → Bool) (lo hi r : ℕ) : Type 0 where

@@ -9,7 +9,7 @@ ghost use Rattle.around.specs.Build.{Within};
 ghost use Rattle.cells.specs.Rows.{fours, owns, ownNumbers};
 ghost use Rattle.filling.specs.Found.{Found, pushed};
 ghost use Rattle.own.specs.Stamps.{Stamped};
-ghost use Rattle.filling.specs.Next.{Rising, Least, Passed, leftOut, Aside, Visited, NextOf, Reached};
+ghost use Rattle.filling.specs.Next.{Rising, Least, Passed, leftOut, Aside, NextOf, Reached};
 use around::row_of;
 use cells::corners4;
 use own::is_hit;
@@ -41,40 +41,40 @@ fn push(f: Tets, e: Tet) -> Tets
     Tets { count: k + 1, list }
 }
 
-// What was seen in a row: the least, and the place that the row is read up to. No tetrahedron before that place is asked for again.
+// What was seen in a row: the least, and the place that the row is read up to. No tetrahedron before that place is asked
+// for again.
 struct Seen {
     least: usize,
     at: usize,
 }
 
-// The least of a row's tetrahedra that is one of the cell's and not below lo; hi where none below hi is. The row rises, so the first is it.
-fn least_in(
-    labels: &[u16],
-    row: &[u16],
+// What is asked of a row: from which place on, and between which two numbers.
+struct Span {
     from: usize,
     lo: usize,
     hi: usize,
-    m: &[u8; 512],
-    c: &[u16],
-    quads: &[u8],
-) -> Seen
+}
+
+// The least of a row's tetrahedra that is one of the cell's and not below lo; hi where none below hi is. The row rises,
+// so the first is it.
+fn least_in(labels: &[u16], row: &[u16], s: Span, m: &[u8; 512], c: &[u16], quads: &[u8]) -> Seen
     requires { ⌜ Within (length (now labels) / 4) (now row) × Rising (now row) ⌝ }
-    requires { ⌜ Stamped (now c) (length (now c)) (now m) × Passed (owns (now labels) (fours (now quads)) (now c)) lo (now row) from ⌝ }
-    ensures { λ r. ⌜ Least (owns (now (labels .entry)) (fours (now (quads .entry))) (now (c .entry))) lo hi (now (row .entry)) (length (now (row .entry))) (r .least) × Passed (owns (now (labels .entry)) (fours (now (quads .entry))) (now (c .entry))) lo (now (row .entry)) (r .at) ⌝ }
+    requires { ⌜ Stamped (now c) (length (now c)) (now m) × Passed (owns (now labels) (fours (now quads)) (now c)) (s .lo) (now row) (s .from) ⌝ }
+    ensures { λ r. ⌜ Least (owns (now (labels .entry)) (fours (now (quads .entry))) (now (c .entry))) (s .lo) (s .hi) (now (row .entry)) (length (now (row .entry))) (r .least) × Passed (owns (now (labels .entry)) (fours (now (quads .entry))) (now (c .entry))) (s .lo) (now (row .entry)) (r .at) ⌝ }
 {
-    let mut at = from;
+    let mut at = s.from;
     while at < row.len() {
         let i = row[at];
         let j = i as usize;
-        if hi <= j {
-            return Seen { least: hi, at };
+        if s.hi <= j {
+            return Seen { least: s.hi, at };
         }
-        if is_hit(labels, Tet(i), lo, m, c, quads) {
+        if is_hit(labels, Tet(i), s.lo, m, c, quads) {
             return Seen { least: j, at };
         }
         at += 1;
     }
-    Seen { least: hi, at }
+    Seen { least: s.hi, at }
 }
 
 // The corners of one quadrilateral of a cell, and how many tetrahedra they have.
@@ -122,7 +122,8 @@ fn crowd_at(
     }
 }
 
-// The corners to leave out: of the quadrilaterals, one whose corners have the most. The choice is a matter of speed alone.
+// The corners to leave out: of the quadrilaterals, one whose corners have the most. The choice is a matter of speed
+// alone.
 fn crowd_of(
     labels: &[u16],
     n: usize,
@@ -170,35 +171,15 @@ fn is_crowded(w: Crowd, v: Vertex) -> bool
     v == w.e
 }
 
-// The lesser of hi and the least of the tetrahedra around a vertex, unless that is left out.
-fn visit(
-    labels: &[u16],
-    n: usize,
-    offsets: &[u16],
-    entries: &[u16],
-    v: Vertex,
-    from: usize,
-    lo: usize,
-    hi: usize,
-    w: Crowd,
-    m: &[u8; 512],
-    c: &[u16],
-    quads: &[u8],
-) -> Seen
-    requires { ⌜ Indexed (now labels) n (now offsets) (now entries) × Stamped (now c) (length (now c)) (now m) ⌝ }
-    requires { ⌜ Passed (owns (now labels) (fours (now quads)) (now c)) lo (around (now labels) (v .0)) from ⌝ }
-    ensures { λ r. ⌜ Visited (owns (now (labels .entry)) (fours (now (quads .entry))) (now (c .entry))) lo hi (leftOut w) (v .0) (around (now (labels .entry)) (v .0)) (r .least) × Passed (owns (now (labels .entry)) (fours (now (quads .entry))) (now (c .entry))) lo (around (now (labels .entry)) (v .0)) (r .at) ⌝ }
+// The tetrahedra around a vertex, as they stand in the index.
+fn row_at<'a>(labels: &[u16], n: usize, offsets: &[u16], entries: &'a [u16], v: Vertex) -> &'a [u16]
+    requires { ⌜ Indexed (now labels) n (now offsets) (now entries) ⌝ }
+    ensures { λ r. ⌜ now r ≡ around (now (labels .entry)) (v .0) ⌝ }
 {
-    if is_crowded(w, v) {
-        return Seen {
-            least: hi,
-            at: from,
-        };
-    }
     let row = row_of(labels, n, offsets, entries, v);
-    let start = row.from;
-    let end = start + row.size;
-    least_in(labels, &entries[start..end], from, lo, hi, m, c, quads)
+    let from = row.from;
+    let end = from + row.size;
+    &entries[from..end]
 }
 
 // For each of the first 8 corners, the place that its row is read up to: at first none.
@@ -225,8 +206,8 @@ fn put_place(places: &mut [usize], k: usize, at: usize)
     }
 }
 
-// The next of the cell's tetrahedra, from lo on; the number of all where there is none. Each has a corner of the cell that is not left out,
-// so it is looked for around these, in each row from its place on.
+// The next of the cell's tetrahedra, from lo on; the number of all where there is none. Each has a corner of the cell
+// that is not left out, so it is looked for around these, in each row from its place on.
 fn next(
     labels: &[u16],
     n: usize,
@@ -243,30 +224,22 @@ fn next(
     requires { ⌜ Aside (owns (now labels) (fours (now quads)) (now c)) (now labels) (leftOut w) × Reached (owns (now labels) (fours (now quads)) (now c)) (now labels) (now c) lo (now places) ⌝ }
     ensures { λ r. ⌜ NextOf (owns (now (labels .entry)) (fours (now (quads .entry))) (now (c .entry))) lo (length (now (labels .entry)) / 4) r × Reached (owns (now (labels .entry)) (fours (now (quads .entry))) (now (c .entry))) (now (labels .entry)) (now (c .entry)) lo (now (places .exit)) ⌝ }
 {
-    let mut least = labels.len() / 4;
+    let mut hi = labels.len() / 4;
     let mut k = 0;
     while k < c.len() {
         let v = c[k];
+        if is_crowded(w, Vertex(v)) {
+            k += 1;
+            continue;
+        }
+        let row = row_at(labels, n, offsets, entries, Vertex(v));
         let from = place_of(places, k);
-        let seen = visit(
-            labels,
-            n,
-            offsets,
-            entries,
-            Vertex(v),
-            from,
-            lo,
-            least,
-            w,
-            m,
-            c,
-            quads,
-        );
-        least = seen.least;
+        let seen = least_in(labels, row, Span { from, lo, hi }, m, c, quads);
+        hi = seen.least;
         put_place(places, k, seen.at);
         k += 1;
     }
-    least
+    hi
 }
 
 // The tetrahedra of the cell on these corners, one after the other.

@@ -5,15 +5,15 @@ use native.Mathlib.Omega.{arith}
 use lib.ListN.{length, getD}
 use Rattle.base.specs.Lists.{any}
 use Rattle.base.proofs.Loop.{AnyUp, any-start, any-next, any-found, any-done, listed}
-use Rattle.facets.specs.Facets.{clashes}
+use Rattle.facets.specs.Facets.{atFacet, clashes}
 use Rattle.facets.proofs.any_clash.Statement.{statement}
 use Rattle.facets.proofs.any_clash.Tie as tie
 
 abbrev Inv-loop : tie.InvT-loop
-Inv-loop coords labels row e u a b c k₀ k = AnyUp (clashes coords labels (e .0) (u .0) (a .0) (b .0) (c .0)) (λ i. getD row i 0) (length row) k
+Inv-loop coords labels row f k₀ k = AnyUp (atFacet (clashes coords labels (f .e .0)) f) (λ i. getD row i 0) (length row) k
 
 abbrev μ-loop : tie.MeasureT-loop
-μ-loop coords labels row e u a b c k₀ k = length row - k
+μ-loop coords labels row f k₀ k = length row - k
 
 loop-holds : tie.Need-loop-holds Inv-loop μ-loop
 loop-holds c = any-start

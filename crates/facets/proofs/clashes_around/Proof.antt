@@ -34,7 +34,7 @@ returns : tie.Need-returns
 returns c =
     let d = c .before .before .before in
     let s = d .before .before .before .before .before .args in
-    c .any-clash .ensures ∙ rw (row-slice (d .row-of .ensures), d .before .rarest .ensures) (clash-around (s .coords .now) (s .labels .now) (s .e .0) (s .u .0) (s .a .0) (s .b .0) (s .c .0))
+    c .any-clash .ensures ∙ rw (row-slice (d .row-of .ensures), d .before .rarest .ensures) (clash-around (s .coords .now) (s .labels .now) (s .f .e .0) (s .f .u .0) (s .f .a .0) (s .f .b .0) (s .f .c .0))
 
 pub clashes-around-spec : {M : Type 1} → statement M
 clashes-around-spec =

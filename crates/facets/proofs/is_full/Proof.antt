@@ -14,7 +14,7 @@ pair-of-requires c κs = search needs
 returns : tie.Need-returns
 returns c =
     let p = c .before .before in
-    sym (no-third (p .before .before .before .before .before .args .u .0) (p .pair-of .ensures) (not-true _ (c .if1 .taken)))
+    sym (no-third (p .before .before .before .before .before .args .f .u .0) (p .pair-of .ensures) (not-true _ (c .if1 .taken)))
 
 sharing-requires : tie.Need-sharing-requires
 sharing-requires c κs = search needs

@@ -9,10 +9,10 @@ use Rattle.filling.proofs.least_in.Statement.{statement}
 use Rattle.filling.proofs.least_in.Tie as tie
 
 abbrev Inv-loop : tie.InvT-loop
-Inv-loop labels row from lo hi m c quads at₀ at = Passed (owns labels (fours quads) c) lo row at
+Inv-loop labels row s m c quads at₀ at = Passed (owns labels (fours quads) c) (s .lo) row at
 
 abbrev μ-loop : tie.MeasureT-loop
-μ-loop labels row from lo hi m c quads at₀ at = length row - at
+μ-loop labels row s m c quads at₀ at = length row - at
 
 loop-holds : tie.Need-loop-holds Inv-loop μ-loop
 loop-holds c = c .before .before .before .before .pre .1 .1
@@ -27,13 +27,13 @@ cast-j : tie.Need-cast-j Inv-loop μ-loop
 cast-j c = omega (arith, c .before .before .before .before .before .before .before .pre .0 .0 .below (c .before .before .loop .at) (omega arith))
 
 returns : tie.Need-returns Inv-loop μ-loop
-returns c = (least-past (c .before .before .before .loop .inv) (c .before .before .before .before .before .before .before .before .pre .0 .1) (omega arith) (omega arith), c .before .before .before .loop .inv)
+returns c = (least-past (c .before .before .before .before .loop .inv) (c .before .before .before .before .before .before .before .before .before .pre .0 .1) (omega arith) (omega arith), c .before .before .before .before .loop .inv)
 
 is-hit-requires : tie.Need-is-hit-requires Inv-loop μ-loop
-is-hit-requires c κs = (omega (arith, c .before .before .before .before .before .before .before .before .pre .0 .0 .below (c .before .before .before .loop .at) (omega arith)), c .before .before .before .before .before .before .before .before .pre .1 .0)
+is-hit-requires c κs = (omega (arith, c .before .before .before .before .before .before .before .before .before .pre .0 .0 .below (c .before .before .before .before .loop .at) (omega arith)), c .before .before .before .before .before .before .before .before .before .pre .1 .0)
 
 returns-2 : tie.Need-returns-2 Inv-loop μ-loop
-returns-2 c = (least-hit (c .before .before .before .before .before .loop .inv) (c .before .before .before .before .before .before .before .before .before .before .pre .0 .1) (omega arith) (omega arith) (c .before .is-hit .ensures) (c .if2 .taken), c .before .before .before .before .before .loop .inv)
+returns-2 c = (least-hit (c .before .before .before .before .before .before .loop .inv) (c .before .before .before .before .before .before .before .before .before .before .before .pre .0 .1) (omega arith) (omega arith) (c .before .is-hit .ensures) (c .if2 .taken), c .before .before .before .before .before .before .loop .inv)
 
 add-at : tie.Need-add-at Inv-loop μ-loop
 add-at c = omega arith
@@ -42,7 +42,7 @@ loop-less : tie.Need-loop-less Inv-loop μ-loop
 loop-less c = omega arith
 
 loop-again : tie.Need-loop-again Inv-loop μ-loop
-loop-again c = passed-next (c .before .before .before .before .before .loop .inv) (omega arith) (c .before .is-hit .ensures) (c .if2 .left)
+loop-again c = passed-next (c .before .before .before .before .before .before .loop .inv) (omega arith) (c .before .is-hit .ensures) (c .if2 .left)
 
 returns-3 : tie.Need-returns-3 Inv-loop μ-loop
 returns-3 c = (least-none (c .before .loop .inv) _ (omega arith), c .before .loop .inv)

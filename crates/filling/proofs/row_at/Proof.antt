@@ -1,0 +1,38 @@
+-- `filling::row_at` meets its contract. Assumes nothing.
+use Rattle.around.proofs.Around.{row-slice}
+use borrow.Author.Needs.{needs}
+use Rattle.filling.proofs.row_at.Statement.{statement}
+use Rattle.filling.proofs.row_at.Tie as tie
+
+row-of-requires : tie.Need-row-of-requires
+row-of-requires c κs = search needs
+
+add-end : tie.Need-add-end
+add-end c = search needs
+
+mul-result : tie.Need-mul-result
+mul-result c = search needs
+
+sub-result : tie.Need-sub-result
+sub-result c = search needs
+
+part-result-start : tie.Need-part-result-start
+part-result-start c = search needs
+
+part-result-end : tie.Need-part-result-end
+part-result-end c = search needs
+
+returns : tie.Need-returns
+returns c = row-slice (c .before .before .row-of .ensures)
+
+pub row-at-spec : {M : Type 1} → statement M
+row-at-spec =
+    tie.close
+    (tie.spec
+    row-of-requires
+    add-end
+    mul-result
+    sub-result
+    part-result-start
+    part-result-end
+    returns)
