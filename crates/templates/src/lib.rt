@@ -6,21 +6,7 @@ ghost use Rattle.templates.specs.Tables.{at, eight};
 
 mod tables;
 
-pub use tables::HEX_EDGES;
-pub use tables::HEX_INSIDE;
-pub use tables::HEX_QUADS;
-pub use tables::HEX_TRIANGLES;
-pub use tables::HEX_TRIPLES;
-pub use tables::PRISM_EDGES;
-pub use tables::PRISM_INSIDE;
-pub use tables::PRISM_QUADS;
-pub use tables::PRISM_TRIANGLES;
-pub use tables::PRISM_TRIPLES;
-pub use tables::PYRAMID_EDGES;
-pub use tables::PYRAMID_INSIDE;
-pub use tables::PYRAMID_QUADS;
-pub use tables::PYRAMID_TRIANGLES;
-pub use tables::PYRAMID_TRIPLES;
+pub use tables::ROWS;
 
 // ---- a tuple: the vertices of its corners, in letter order
 

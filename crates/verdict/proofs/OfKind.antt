@@ -1,51 +1,73 @@
--- The facts of a kind's flat tables, for the three kinds. Assumes nothing.
+-- The facts of the rows of all between the bounds of a kind, for every kind. Assumes nothing.
 use mathlib.Core.Path.{_≡_, refl}
-use mathlib.Core.Bool.{true}
-use mathlib.Core.List.{List, [], _∷_, _++_}
-use Prim.Native.Nat.{ℕ}
+use mathlib.Core.Bool.{Bool, true, false, cond}
+use mathlib.Core.List.{List}
+use Prim.Native.Nat.{ℕ, _-_, _≤_}
+use native.Mathlib.Omega.{arith}
+use borrow.Author.Tests.{leb-true}
+use lib.Dec.{eqb}
+use lib.ListN.{take, drop}
 use Rattle.base.specs.Lists.{keep, spread}
-use Rattle.templates.specs.Tables.{Template, hexahedron, prism, pyramid}
+use Rattle.templates.specs.Tables.{Template, hexahedron, prism, pyramid, templateOf}
 use Rattle.templates.specs.Flat.{pairs}
 use Rattle.cells.specs.Cells.{first, second, inside, corner3}
 use Rattle.counting.specs.Noted.{low, Lettered}
+use Rattle.verdict.specs.declared.rows.Bounds.{Bounds}
 use Rattle.verdict.specs.Judged.{TablesOf}
+use Rattle.verdict.specs.Laid.{laid, rows, standing, hexahedronAt, prismAt, pyramidAt, boundsOf, Rising}
 use Rattle.verdict.proofs.Solid.{edged}
 
--- a table's rows end to end
-abbrev pub flat : List (List ℕ) → List ℕ
-flat [] = []
-flat (r ∷ rs) = r ++ flat rs
+-- the numbers from place i up to place j
+abbrev pub cut : List ℕ → ℕ → ℕ → List ℕ
+cut xs i j = take (j - i) (drop i xs)
 
--- a kind's tables laid flat are its template's, they name no corner past h, and every edge is a side of a face
-pub record Kind (t : Template) : Type 0 where
-  pub tables : TablesOf t (t .corners) (flat (t .triangles)) (flat (t .quads)) (flat (t .triples)) (flat (inside t))
-  pub edges : pairs (flat (t .edges)) ≡ t .edges
-  pub lettered : Lettered (flat (t .triangles)) (flat (t .quads)) (flat (inside t))
+-- between the bounds stand the template's tables, they name no corner past h, and every edge is a side of a face
+pub record Kind (xs : List ℕ) (b : Bounds) (t : Template) : Type 0 where
+  pub rising : Rising b
+  pub tables : TablesOf t (b .corners) (cut xs (b .triangles) (b .quads)) (cut xs (b .quads) (b .triples)) (cut xs (b .triples) (b .within)) (cut xs (b .within) (b .end))
+  pub edges : pairs (cut xs (b .edges) (b .triangles)) ≡ t .edges
+  pub lettered : Lettered (cut xs (b .triangles) (b .quads)) (cut xs (b .quads) (b .triples)) (cut xs (b .within) (b .end))
   pub edged : edged t ≡ true
 
-pub of-hexahedron : Kind hexahedron
-unfolding inside corner3 keep spread low first second
-of-hexahedron = record {
+rises : (n : ℕ) (t : Template) → t .corners ≤ 8 → standing n t .end ≤ 308 → Rising (standing n t)
+unfolding standing
+rises n t c e = record {
+  corners = c;
+  edges = omega arith;
+  triangles = omega arith;
+  quads = omega arith;
+  triples = omega arith;
+  within = omega arith;
+  end = e;
+}
+
+by-kind : (x y : Bool) → Kind rows (cond x hexahedronAt (cond y prismAt pyramidAt)) (cond x hexahedron (cond y prism pyramid))
+unfolding laid rows standing inside corner3 keep spread low first second
+by-kind true y = record {
+  rising = rises _ hexahedron (leb-true _ _ refl) (leb-true _ _ refl);
+  tables = record { corners = refl; triangles = refl; quads = refl; triples = refl; within = refl };
+  edges = refl;
+  lettered = record { triangles = refl; quads = refl; within = refl };
+  edged = refl;
+}
+by-kind false true = record {
+  rising = rises _ prism (leb-true _ _ refl) (leb-true _ _ refl);
+  tables = record { corners = refl; triangles = refl; quads = refl; triples = refl; within = refl };
+  edges = refl;
+  lettered = record { triangles = refl; quads = refl; within = refl };
+  edged = refl;
+}
+by-kind false false = record {
+  rising = rises _ pyramid (leb-true _ _ refl) (leb-true _ _ refl);
   tables = record { corners = refl; triangles = refl; quads = refl; triples = refl; within = refl };
   edges = refl;
   lettered = record { triangles = refl; quads = refl; within = refl };
   edged = refl;
 }
 
-pub of-prism : Kind prism
-unfolding inside corner3 keep spread low first second
-of-prism = record {
-  tables = record { corners = refl; triangles = refl; quads = refl; triples = refl; within = refl };
-  edges = refl;
-  lettered = record { triangles = refl; quads = refl; within = refl };
-  edged = refl;
-}
+pub of-kind : (k : ℕ) {xs : List ℕ} {b : Bounds} → xs ≡ rows → b ≡ boundsOf k → Kind xs b (templateOf k)
+unfolding boundsOf
+of-kind k e f = rw (e, f) (by-kind (eqb k 8) (eqb k 6))
 
-pub of-pyramid : Kind pyramid
-unfolding inside corner3 keep spread low first second
-of-pyramid = record {
-  tables = record { corners = refl; triangles = refl; quads = refl; triples = refl; within = refl };
-  edges = refl;
-  lettered = record { triangles = refl; quads = refl; within = refl };
-  edged = refl;
-}
+pub bounded : (k : ℕ) {b : Bounds} → b ≡ boundsOf k → (b ≡ boundsOf k) × Rising b
+bounded k f = (f, of-kind k refl f .rising)

@@ -5,13 +5,14 @@ ghost use Prim.Native.Nat.{_/_, _≤_};
 ghost use lib.ListN.{length, take};
 ghost use Rattle.space.specs.Arrays.{meshOf};
 ghost use Rattle.around.specs.Arrays.{Arrays};
-ghost use Rattle.templates.specs.Tables.{Template, hexahedron, prism, pyramid, templateOf};
+ghost use Rattle.templates.specs.Tables.{Template, templateOf};
 ghost use Rattle.templates.specs.Flat.{pairs};
 ghost use Rattle.cells.specs.Cells.{isCell, firstFailing};
 ghost use Rattle.counting.specs.Noted.{Lettered};
 ghost use Rattle.verdict.specs.Judged.{TablesOf, isSolid, Tells, noTets};
 
 mod leaf;
+mod rows;
 
 use cells::has_edges;
 use cells::has_faces;
@@ -23,21 +24,9 @@ use judging::judge_found;
 pub use leaf::is_leaf;
 use record::TET_PLACES;
 use record::UNUSED;
-use templates::HEX_EDGES;
-use templates::HEX_INSIDE;
-use templates::HEX_QUADS;
-use templates::HEX_TRIANGLES;
-use templates::HEX_TRIPLES;
-use templates::PRISM_EDGES;
-use templates::PRISM_INSIDE;
-use templates::PRISM_QUADS;
-use templates::PRISM_TRIANGLES;
-use templates::PRISM_TRIPLES;
-use templates::PYRAMID_EDGES;
-use templates::PYRAMID_INSIDE;
-use templates::PYRAMID_QUADS;
-use templates::PYRAMID_TRIANGLES;
-use templates::PYRAMID_TRIPLES;
+use rows::Bounds;
+use rows::all_rows;
+use rows::bounds_of;
 
 // Yes or no, and the tetrahedra of the cell where it is yes.
 pub struct Verdict {
@@ -83,87 +72,6 @@ fn judge_by(
     judge_found(labels, parts, found, c, triangles, quads, within)
 }
 
-fn judge_hexahedron(
-    coords: &[i64],
-    labels: &[u16],
-    parts: &[u16],
-    offsets: &[u16],
-    entries: &[u16],
-    c: &[u16],
-) -> u8
-    requires { ⌜ Arrays (now coords) (now labels) (now parts) (length (now coords) / 3) (now offsets) (now entries) ⌝ }
-    ensures { λ r. ⌜ r ≡ firstFailing (meshOf (now (coords .entry)) (now (labels .entry)) (now (parts .entry))) hexahedron (now (c .entry)) ⌝ }
-{
-    judge_by(
-        coords,
-        labels,
-        parts,
-        offsets,
-        entries,
-        c,
-        8,
-        &HEX_EDGES,
-        &HEX_TRIANGLES,
-        &HEX_QUADS,
-        &HEX_TRIPLES,
-        &HEX_INSIDE,
-    )
-}
-
-fn judge_prism(
-    coords: &[i64],
-    labels: &[u16],
-    parts: &[u16],
-    offsets: &[u16],
-    entries: &[u16],
-    c: &[u16],
-) -> u8
-    requires { ⌜ Arrays (now coords) (now labels) (now parts) (length (now coords) / 3) (now offsets) (now entries) ⌝ }
-    ensures { λ r. ⌜ r ≡ firstFailing (meshOf (now (coords .entry)) (now (labels .entry)) (now (parts .entry))) prism (now (c .entry)) ⌝ }
-{
-    judge_by(
-        coords,
-        labels,
-        parts,
-        offsets,
-        entries,
-        c,
-        6,
-        &PRISM_EDGES,
-        &PRISM_TRIANGLES,
-        &PRISM_QUADS,
-        &PRISM_TRIPLES,
-        &PRISM_INSIDE,
-    )
-}
-
-fn judge_pyramid(
-    coords: &[i64],
-    labels: &[u16],
-    parts: &[u16],
-    offsets: &[u16],
-    entries: &[u16],
-    c: &[u16],
-) -> u8
-    requires { ⌜ Arrays (now coords) (now labels) (now parts) (length (now coords) / 3) (now offsets) (now entries) ⌝ }
-    ensures { λ r. ⌜ r ≡ firstFailing (meshOf (now (coords .entry)) (now (labels .entry)) (now (parts .entry))) pyramid (now (c .entry)) ⌝ }
-{
-    judge_by(
-        coords,
-        labels,
-        parts,
-        offsets,
-        entries,
-        c,
-        5,
-        &PYRAMID_EDGES,
-        &PYRAMID_TRIANGLES,
-        &PYRAMID_QUADS,
-        &PYRAMID_TRIPLES,
-        &PYRAMID_INSIDE,
-    )
-}
-
 fn judge_kind(
     coords: &[i64],
     labels: &[u16],
@@ -176,13 +84,31 @@ fn judge_kind(
     requires { ⌜ Arrays (now coords) (now labels) (now parts) (length (now coords) / 3) (now offsets) (now entries) × (8 ≤ length (now tuple)) ⌝ }
     ensures { λ r. ⌜ r ≡ firstFailing (meshOf (now (coords .entry)) (now (labels .entry)) (now (parts .entry))) (templateOf kind) (take (templateOf kind .corners) (now (tuple .entry))) ⌝ }
 {
-    if kind == 8 {
-        return judge_hexahedron(coords, labels, parts, offsets, entries, &tuple[..8]);
-    }
-    if kind == 6 {
-        return judge_prism(coords, labels, parts, offsets, entries, &tuple[..6]);
-    }
-    judge_pyramid(coords, labels, parts, offsets, entries, &tuple[..5])
+    let table = all_rows();
+    let all = &table[..];
+    let Bounds {
+        corners,
+        edges,
+        triangles,
+        quads,
+        triples,
+        within,
+        end,
+    } = bounds_of(kind);
+    judge_by(
+        coords,
+        labels,
+        parts,
+        offsets,
+        entries,
+        &tuple[..corners],
+        corners,
+        &all[edges..triangles],
+        &all[triangles..quads],
+        &all[quads..triples],
+        &all[triples..within],
+        &all[within..end],
+    )
 }
 
 // The first condition that a tuple fails, 0 of a cell. A kind other than 8 and 6 counts as 5.
@@ -255,84 +181,6 @@ fn is_solid(
     }
 }
 
-fn is_hexahedron(
-    coords: &[i64],
-    labels: &[u16],
-    parts: &[u16],
-    offsets: &[u16],
-    entries: &[u16],
-    c: &[u16],
-) -> Verdict
-    requires { ⌜ Arrays (now coords) (now labels) (now parts) (length (now coords) / 3) (now offsets) (now entries) ⌝ }
-    ensures { λ r. ⌜ Tells isCell (meshOf (now (coords .entry)) (now (labels .entry)) (now (parts .entry))) hexahedron (now (c .entry)) r ⌝ }
-{
-    is_solid(
-        coords,
-        labels,
-        parts,
-        offsets,
-        entries,
-        c,
-        8,
-        &HEX_TRIANGLES,
-        &HEX_QUADS,
-        &HEX_TRIPLES,
-        &HEX_INSIDE,
-    )
-}
-
-fn is_prism(
-    coords: &[i64],
-    labels: &[u16],
-    parts: &[u16],
-    offsets: &[u16],
-    entries: &[u16],
-    c: &[u16],
-) -> Verdict
-    requires { ⌜ Arrays (now coords) (now labels) (now parts) (length (now coords) / 3) (now offsets) (now entries) ⌝ }
-    ensures { λ r. ⌜ Tells isCell (meshOf (now (coords .entry)) (now (labels .entry)) (now (parts .entry))) prism (now (c .entry)) r ⌝ }
-{
-    is_solid(
-        coords,
-        labels,
-        parts,
-        offsets,
-        entries,
-        c,
-        6,
-        &PRISM_TRIANGLES,
-        &PRISM_QUADS,
-        &PRISM_TRIPLES,
-        &PRISM_INSIDE,
-    )
-}
-
-fn is_pyramid(
-    coords: &[i64],
-    labels: &[u16],
-    parts: &[u16],
-    offsets: &[u16],
-    entries: &[u16],
-    c: &[u16],
-) -> Verdict
-    requires { ⌜ Arrays (now coords) (now labels) (now parts) (length (now coords) / 3) (now offsets) (now entries) ⌝ }
-    ensures { λ r. ⌜ Tells isCell (meshOf (now (coords .entry)) (now (labels .entry)) (now (parts .entry))) pyramid (now (c .entry)) r ⌝ }
-{
-    is_solid(
-        coords,
-        labels,
-        parts,
-        offsets,
-        entries,
-        c,
-        5,
-        &PYRAMID_TRIANGLES,
-        &PYRAMID_QUADS,
-        &PYRAMID_TRIPLES,
-        &PYRAMID_INSIDE,
-    )
-}
-
 fn is_of_kind(
     coords: &[i64],
     labels: &[u16],
@@ -345,13 +193,30 @@ fn is_of_kind(
     requires { ⌜ Arrays (now coords) (now labels) (now parts) (length (now coords) / 3) (now offsets) (now entries) × (8 ≤ length (now tuple)) ⌝ }
     ensures { λ r. ⌜ Tells isCell (meshOf (now (coords .entry)) (now (labels .entry)) (now (parts .entry))) (templateOf kind) (take (templateOf kind .corners) (now (tuple .entry))) r ⌝ }
 {
-    if kind == 8 {
-        return is_hexahedron(coords, labels, parts, offsets, entries, &tuple[..8]);
-    }
-    if kind == 6 {
-        return is_prism(coords, labels, parts, offsets, entries, &tuple[..6]);
-    }
-    is_pyramid(coords, labels, parts, offsets, entries, &tuple[..5])
+    let table = all_rows();
+    let all = &table[..];
+    let Bounds {
+        corners,
+        edges: _,
+        triangles,
+        quads,
+        triples,
+        within,
+        end,
+    } = bounds_of(kind);
+    is_solid(
+        coords,
+        labels,
+        parts,
+        offsets,
+        entries,
+        &tuple[..corners],
+        corners,
+        &all[triangles..quads],
+        &all[quads..triples],
+        &all[triples..within],
+        &all[within..end],
+    )
 }
 
 // The tuple is a cell, and its tetrahedra: as `judge` would say, but conditions 2 and 3 are not looked at, since 5 implies them.

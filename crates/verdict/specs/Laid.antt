@@ -1,0 +1,62 @@
+-- The tables of the three kinds as the code has them: kind after kind, every row laid end to end.
+-- Assumes nothing.
+use Prim.Native.Nat.{ℕ, _+_, _≤_}
+use mathlib.Core.Bool.{cond}
+use mathlib.Core.List.{List, _++_}
+use lib.Dec.{eqb}
+use lib.ListN.{length}
+use Rattle.base.specs.Lists.{spread}
+use Rattle.templates.specs.Tables.{Template, hexahedron, prism, pyramid}
+use Rattle.cells.specs.Cells.{inside}
+use Rattle.verdict.specs.declared.rows.Bounds.{Bounds}
+
+-- a table's rows end to end
+abbrev pub flat : List (List ℕ) → List ℕ
+flat rs = spread (λ r. r) rs
+
+-- the tables of a kind, and of the three
+unfoldable pub laid : Template → List ℕ
+laid t = flat (t .edges) ++ flat (t .triangles) ++ flat (t .quads) ++ flat (t .triples) ++ flat (inside t)
+
+unfoldable pub rows : List ℕ
+rows = laid hexahedron ++ laid prism ++ laid pyramid
+
+-- where each table of a kind begins, the first at place n, and where the last ends
+unfoldable pub standing : ℕ → Template → Bounds
+standing n t =
+    let triangles = n + length (flat (t .edges)) in
+    let quads = triangles + length (flat (t .triangles)) in
+    let triples = quads + length (flat (t .quads)) in
+    let within = triples + length (flat (t .triples)) in
+    record {
+      corners = t .corners;
+      edges = n;
+      triangles = triangles;
+      quads = quads;
+      triples = triples;
+      within = within;
+      end = within + length (flat (inside t));
+    }
+
+abbrev pub hexahedronAt : Bounds
+hexahedronAt = standing 0 hexahedron
+
+abbrev pub prismAt : Bounds
+prismAt = standing (length (laid hexahedron)) prism
+
+abbrev pub pyramidAt : Bounds
+pyramidAt = standing (length (laid hexahedron ++ laid prism)) pyramid
+
+-- where those of a kind stand
+unfoldable pub boundsOf : ℕ → Bounds
+boundsOf k = cond (eqb k 8) hexahedronAt (cond (eqb k 6) prismAt pyramidAt)
+
+-- the bounds rise, within the rows of all, and a tuple of eight has a vertex for every corner
+pub record Rising (b : Bounds) : Type 0 where
+  pub corners : b .corners ≤ 8
+  pub edges : b .edges ≤ b .triangles
+  pub triangles : b .triangles ≤ b .quads
+  pub quads : b .quads ≤ b .triples
+  pub triples : b .triples ≤ b .within
+  pub within : b .within ≤ b .end
+  pub end : b .end ≤ 308
