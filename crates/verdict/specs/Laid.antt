@@ -38,6 +38,7 @@ standing n t =
       end = within + length (flat (inside t));
     }
 
+-- the three kinds in `rows`
 abbrev pub hexahedronAt : Bounds
 hexahedronAt = standing 0 hexahedron
 
@@ -47,7 +48,7 @@ prismAt = standing (length (laid hexahedron)) prism
 abbrev pub pyramidAt : Bounds
 pyramidAt = standing (length (laid hexahedron ++ laid prism)) pyramid
 
--- where those of a kind stand
+-- of any kind; other than 8 and 6 it counts as 5
 unfoldable pub boundsOf : ℕ → Bounds
 boundsOf k = cond (eqb k 8) hexahedronAt (cond (eqb k 6) prismAt pyramidAt)
 
