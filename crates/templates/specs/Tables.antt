@@ -1,5 +1,4 @@
 -- The templates: of each kind the edges, the faces, the corner triples, the search order and the rotations.
--- Corners a to h are 0 to 7.
 -- Assumes nothing.
 use Prim.Native.Nat.{ℕ}
 use mathlib.Core.Bool.{Bool, cond, _||_}
@@ -7,13 +6,38 @@ use mathlib.Core.List.{List, [], _∷_, map}
 use lib.Dec.{eqb}
 use lib.ListN.{getD}
 
--- a place of the search order: the earlier places whose vertex must be less, and those that an edge joins it to
+-- the corners
+abbrev pub a : ℕ
+a = 0
+
+abbrev pub b : ℕ
+b = 1
+
+abbrev pub c : ℕ
+c = 2
+
+abbrev pub d : ℕ
+d = 3
+
+abbrev pub e : ℕ
+e = 4
+
+abbrev pub f : ℕ
+f = 5
+
+abbrev pub g : ℕ
+g = 6
+
+abbrev pub h : ℕ
+h = 7
+
+-- a place of the search order, by number: the earlier places whose vertex must be less, and those that an edge joins it to
 pub record Place : Type 0 where
   pub below : List ℕ
   pub joined : List ℕ
 
 abbrev pub place : List ℕ → List ℕ → Place
-place b j = record { below = b; joined = j }
+place less join = record { below = less; joined = join }
 
 pub record Template : Type 0 where
   pub kind : ℕ
@@ -38,11 +62,11 @@ abbrev pub hexahedron : Template
 hexahedron = record {
   kind = 8;
   corners = 8;
-  edges = (0 ∷ 1 ∷ []) ∷ (1 ∷ 2 ∷ []) ∷ (2 ∷ 3 ∷ []) ∷ (0 ∷ 3 ∷ []) ∷ (0 ∷ 4 ∷ []) ∷ (1 ∷ 5 ∷ []) ∷ (2 ∷ 6 ∷ []) ∷ (3 ∷ 7 ∷ []) ∷ (4 ∷ 5 ∷ []) ∷ (5 ∷ 6 ∷ []) ∷ (6 ∷ 7 ∷ []) ∷ (4 ∷ 7 ∷ []) ∷ [];
+  edges = (a ∷ b ∷ []) ∷ (b ∷ c ∷ []) ∷ (c ∷ d ∷ []) ∷ (a ∷ d ∷ []) ∷ (a ∷ e ∷ []) ∷ (b ∷ f ∷ []) ∷ (c ∷ g ∷ []) ∷ (d ∷ h ∷ []) ∷ (e ∷ f ∷ []) ∷ (f ∷ g ∷ []) ∷ (g ∷ h ∷ []) ∷ (e ∷ h ∷ []) ∷ [];
   triangles = [];
-  quads = (0 ∷ 1 ∷ 2 ∷ 3 ∷ []) ∷ (4 ∷ 5 ∷ 6 ∷ 7 ∷ []) ∷ (0 ∷ 1 ∷ 5 ∷ 4 ∷ []) ∷ (3 ∷ 2 ∷ 6 ∷ 7 ∷ []) ∷ (1 ∷ 2 ∷ 6 ∷ 5 ∷ []) ∷ (0 ∷ 3 ∷ 7 ∷ 4 ∷ []) ∷ [];
-  triples = (0 ∷ 1 ∷ 3 ∷ 4 ∷ []) ∷ (1 ∷ 2 ∷ 0 ∷ 5 ∷ []) ∷ (2 ∷ 3 ∷ 1 ∷ 6 ∷ []) ∷ (3 ∷ 0 ∷ 2 ∷ 7 ∷ []) ∷ (4 ∷ 7 ∷ 5 ∷ 0 ∷ []) ∷ (5 ∷ 4 ∷ 6 ∷ 1 ∷ []) ∷ (6 ∷ 5 ∷ 7 ∷ 2 ∷ []) ∷ (7 ∷ 6 ∷ 4 ∷ 3 ∷ []) ∷ [];
-  order = 0 ∷ 1 ∷ 3 ∷ 4 ∷ 2 ∷ 5 ∷ 7 ∷ 6 ∷ [];
+  quads = (a ∷ b ∷ c ∷ d ∷ []) ∷ (e ∷ f ∷ g ∷ h ∷ []) ∷ (a ∷ b ∷ f ∷ e ∷ []) ∷ (d ∷ c ∷ g ∷ h ∷ []) ∷ (b ∷ c ∷ g ∷ f ∷ []) ∷ (a ∷ d ∷ h ∷ e ∷ []) ∷ [];
+  triples = (a ∷ b ∷ d ∷ e ∷ []) ∷ (b ∷ c ∷ a ∷ f ∷ []) ∷ (c ∷ d ∷ b ∷ g ∷ []) ∷ (d ∷ a ∷ c ∷ h ∷ []) ∷ (e ∷ h ∷ f ∷ a ∷ []) ∷ (f ∷ e ∷ g ∷ b ∷ []) ∷ (g ∷ f ∷ h ∷ c ∷ []) ∷ (h ∷ g ∷ e ∷ d ∷ []) ∷ [];
+  order = a ∷ b ∷ d ∷ e ∷ c ∷ f ∷ h ∷ g ∷ [];
   places = 0 ∷ 1 ∷ 4 ∷ 2 ∷ 3 ∷ 5 ∷ 7 ∷ 6 ∷ [];
   search =
       place [] [] ∷
@@ -54,45 +78,45 @@ hexahedron = record {
       place (0 ∷ []) (2 ∷ 3 ∷ []) ∷
       place (0 ∷ []) (4 ∷ 5 ∷ 6 ∷ []) ∷
       [];
-  less = (0 ∷ 1 ∷ []) ∷ (0 ∷ 3 ∷ []) ∷ (1 ∷ 3 ∷ []) ∷ (0 ∷ 4 ∷ []) ∷ (1 ∷ 4 ∷ []) ∷ (0 ∷ 2 ∷ []) ∷ (0 ∷ 5 ∷ []) ∷ (0 ∷ 7 ∷ []) ∷ (0 ∷ 6 ∷ []) ∷ [];
+  less = (a ∷ b ∷ []) ∷ (a ∷ d ∷ []) ∷ (b ∷ d ∷ []) ∷ (a ∷ e ∷ []) ∷ (b ∷ e ∷ []) ∷ (a ∷ c ∷ []) ∷ (a ∷ f ∷ []) ∷ (a ∷ h ∷ []) ∷ (a ∷ g ∷ []) ∷ [];
   turns =
-      (0 ∷ 1 ∷ 2 ∷ 3 ∷ 4 ∷ 5 ∷ 6 ∷ 7 ∷ []) ∷
-      (0 ∷ 3 ∷ 7 ∷ 4 ∷ 1 ∷ 2 ∷ 6 ∷ 5 ∷ []) ∷
-      (0 ∷ 4 ∷ 5 ∷ 1 ∷ 3 ∷ 7 ∷ 6 ∷ 2 ∷ []) ∷
-      (1 ∷ 0 ∷ 4 ∷ 5 ∷ 2 ∷ 3 ∷ 7 ∷ 6 ∷ []) ∷
-      (1 ∷ 2 ∷ 3 ∷ 0 ∷ 5 ∷ 6 ∷ 7 ∷ 4 ∷ []) ∷
-      (1 ∷ 5 ∷ 6 ∷ 2 ∷ 0 ∷ 4 ∷ 7 ∷ 3 ∷ []) ∷
-      (2 ∷ 1 ∷ 5 ∷ 6 ∷ 3 ∷ 0 ∷ 4 ∷ 7 ∷ []) ∷
-      (2 ∷ 3 ∷ 0 ∷ 1 ∷ 6 ∷ 7 ∷ 4 ∷ 5 ∷ []) ∷
-      (2 ∷ 6 ∷ 7 ∷ 3 ∷ 1 ∷ 5 ∷ 4 ∷ 0 ∷ []) ∷
-      (3 ∷ 0 ∷ 1 ∷ 2 ∷ 7 ∷ 4 ∷ 5 ∷ 6 ∷ []) ∷
-      (3 ∷ 2 ∷ 6 ∷ 7 ∷ 0 ∷ 1 ∷ 5 ∷ 4 ∷ []) ∷
-      (3 ∷ 7 ∷ 4 ∷ 0 ∷ 2 ∷ 6 ∷ 5 ∷ 1 ∷ []) ∷
-      (4 ∷ 0 ∷ 3 ∷ 7 ∷ 5 ∷ 1 ∷ 2 ∷ 6 ∷ []) ∷
-      (4 ∷ 5 ∷ 1 ∷ 0 ∷ 7 ∷ 6 ∷ 2 ∷ 3 ∷ []) ∷
-      (4 ∷ 7 ∷ 6 ∷ 5 ∷ 0 ∷ 3 ∷ 2 ∷ 1 ∷ []) ∷
-      (5 ∷ 1 ∷ 0 ∷ 4 ∷ 6 ∷ 2 ∷ 3 ∷ 7 ∷ []) ∷
-      (5 ∷ 4 ∷ 7 ∷ 6 ∷ 1 ∷ 0 ∷ 3 ∷ 2 ∷ []) ∷
-      (5 ∷ 6 ∷ 2 ∷ 1 ∷ 4 ∷ 7 ∷ 3 ∷ 0 ∷ []) ∷
-      (6 ∷ 2 ∷ 1 ∷ 5 ∷ 7 ∷ 3 ∷ 0 ∷ 4 ∷ []) ∷
-      (6 ∷ 5 ∷ 4 ∷ 7 ∷ 2 ∷ 1 ∷ 0 ∷ 3 ∷ []) ∷
-      (6 ∷ 7 ∷ 3 ∷ 2 ∷ 5 ∷ 4 ∷ 0 ∷ 1 ∷ []) ∷
-      (7 ∷ 3 ∷ 2 ∷ 6 ∷ 4 ∷ 0 ∷ 1 ∷ 5 ∷ []) ∷
-      (7 ∷ 4 ∷ 0 ∷ 3 ∷ 6 ∷ 5 ∷ 1 ∷ 2 ∷ []) ∷
-      (7 ∷ 6 ∷ 5 ∷ 4 ∷ 3 ∷ 2 ∷ 1 ∷ 0 ∷ []) ∷
+      (a ∷ b ∷ c ∷ d ∷ e ∷ f ∷ g ∷ h ∷ []) ∷
+      (a ∷ d ∷ h ∷ e ∷ b ∷ c ∷ g ∷ f ∷ []) ∷
+      (a ∷ e ∷ f ∷ b ∷ d ∷ h ∷ g ∷ c ∷ []) ∷
+      (b ∷ a ∷ e ∷ f ∷ c ∷ d ∷ h ∷ g ∷ []) ∷
+      (b ∷ c ∷ d ∷ a ∷ f ∷ g ∷ h ∷ e ∷ []) ∷
+      (b ∷ f ∷ g ∷ c ∷ a ∷ e ∷ h ∷ d ∷ []) ∷
+      (c ∷ b ∷ f ∷ g ∷ d ∷ a ∷ e ∷ h ∷ []) ∷
+      (c ∷ d ∷ a ∷ b ∷ g ∷ h ∷ e ∷ f ∷ []) ∷
+      (c ∷ g ∷ h ∷ d ∷ b ∷ f ∷ e ∷ a ∷ []) ∷
+      (d ∷ a ∷ b ∷ c ∷ h ∷ e ∷ f ∷ g ∷ []) ∷
+      (d ∷ c ∷ g ∷ h ∷ a ∷ b ∷ f ∷ e ∷ []) ∷
+      (d ∷ h ∷ e ∷ a ∷ c ∷ g ∷ f ∷ b ∷ []) ∷
+      (e ∷ a ∷ d ∷ h ∷ f ∷ b ∷ c ∷ g ∷ []) ∷
+      (e ∷ f ∷ b ∷ a ∷ h ∷ g ∷ c ∷ d ∷ []) ∷
+      (e ∷ h ∷ g ∷ f ∷ a ∷ d ∷ c ∷ b ∷ []) ∷
+      (f ∷ b ∷ a ∷ e ∷ g ∷ c ∷ d ∷ h ∷ []) ∷
+      (f ∷ e ∷ h ∷ g ∷ b ∷ a ∷ d ∷ c ∷ []) ∷
+      (f ∷ g ∷ c ∷ b ∷ e ∷ h ∷ d ∷ a ∷ []) ∷
+      (g ∷ c ∷ b ∷ f ∷ h ∷ d ∷ a ∷ e ∷ []) ∷
+      (g ∷ f ∷ e ∷ h ∷ c ∷ b ∷ a ∷ d ∷ []) ∷
+      (g ∷ h ∷ d ∷ c ∷ f ∷ e ∷ a ∷ b ∷ []) ∷
+      (h ∷ d ∷ c ∷ g ∷ e ∷ a ∷ b ∷ f ∷ []) ∷
+      (h ∷ e ∷ a ∷ d ∷ g ∷ f ∷ b ∷ c ∷ []) ∷
+      (h ∷ g ∷ f ∷ e ∷ d ∷ c ∷ b ∷ a ∷ []) ∷
       [];
-  mirror = 0 ∷ 3 ∷ 2 ∷ 1 ∷ 4 ∷ 7 ∷ 6 ∷ 5 ∷ [];
+  mirror = a ∷ d ∷ c ∷ b ∷ e ∷ h ∷ g ∷ f ∷ [];
 }
 
 abbrev pub prism : Template
 prism = record {
   kind = 6;
   corners = 6;
-  edges = (0 ∷ 1 ∷ []) ∷ (1 ∷ 2 ∷ []) ∷ (2 ∷ 0 ∷ []) ∷ (0 ∷ 3 ∷ []) ∷ (1 ∷ 4 ∷ []) ∷ (2 ∷ 5 ∷ []) ∷ (3 ∷ 4 ∷ []) ∷ (4 ∷ 5 ∷ []) ∷ (5 ∷ 3 ∷ []) ∷ [];
-  triangles = (0 ∷ 1 ∷ 2 ∷ []) ∷ (3 ∷ 4 ∷ 5 ∷ []) ∷ [];
-  quads = (0 ∷ 1 ∷ 4 ∷ 3 ∷ []) ∷ (4 ∷ 5 ∷ 2 ∷ 1 ∷ []) ∷ (0 ∷ 2 ∷ 5 ∷ 3 ∷ []) ∷ [];
-  triples = (0 ∷ 1 ∷ 2 ∷ 3 ∷ []) ∷ (1 ∷ 2 ∷ 0 ∷ 4 ∷ []) ∷ (2 ∷ 0 ∷ 1 ∷ 5 ∷ []) ∷ (3 ∷ 5 ∷ 4 ∷ 0 ∷ []) ∷ (4 ∷ 3 ∷ 5 ∷ 1 ∷ []) ∷ (5 ∷ 4 ∷ 3 ∷ 2 ∷ []) ∷ [];
-  order = 0 ∷ 1 ∷ 2 ∷ 3 ∷ 4 ∷ 5 ∷ [];
+  edges = (a ∷ b ∷ []) ∷ (b ∷ c ∷ []) ∷ (c ∷ a ∷ []) ∷ (a ∷ d ∷ []) ∷ (b ∷ e ∷ []) ∷ (c ∷ f ∷ []) ∷ (d ∷ e ∷ []) ∷ (e ∷ f ∷ []) ∷ (f ∷ d ∷ []) ∷ [];
+  triangles = (a ∷ b ∷ c ∷ []) ∷ (d ∷ e ∷ f ∷ []) ∷ [];
+  quads = (a ∷ b ∷ e ∷ d ∷ []) ∷ (e ∷ f ∷ c ∷ b ∷ []) ∷ (a ∷ c ∷ f ∷ d ∷ []) ∷ [];
+  triples = (a ∷ b ∷ c ∷ d ∷ []) ∷ (b ∷ c ∷ a ∷ e ∷ []) ∷ (c ∷ a ∷ b ∷ f ∷ []) ∷ (d ∷ f ∷ e ∷ a ∷ []) ∷ (e ∷ d ∷ f ∷ b ∷ []) ∷ (f ∷ e ∷ d ∷ c ∷ []) ∷ [];
+  order = a ∷ b ∷ c ∷ d ∷ e ∷ f ∷ [];
   places = 0 ∷ 1 ∷ 2 ∷ 3 ∷ 4 ∷ 5 ∷ [];
   search =
       place [] [] ∷
@@ -102,27 +126,27 @@ prism = record {
       place (0 ∷ []) (1 ∷ 3 ∷ []) ∷
       place (0 ∷ []) (2 ∷ 3 ∷ 4 ∷ []) ∷
       [];
-  less = (0 ∷ 1 ∷ []) ∷ (0 ∷ 2 ∷ []) ∷ (0 ∷ 3 ∷ []) ∷ (0 ∷ 4 ∷ []) ∷ (0 ∷ 5 ∷ []) ∷ [];
+  less = (a ∷ b ∷ []) ∷ (a ∷ c ∷ []) ∷ (a ∷ d ∷ []) ∷ (a ∷ e ∷ []) ∷ (a ∷ f ∷ []) ∷ [];
   turns =
-      (0 ∷ 1 ∷ 2 ∷ 3 ∷ 4 ∷ 5 ∷ []) ∷
-      (1 ∷ 2 ∷ 0 ∷ 4 ∷ 5 ∷ 3 ∷ []) ∷
-      (2 ∷ 0 ∷ 1 ∷ 5 ∷ 3 ∷ 4 ∷ []) ∷
-      (3 ∷ 5 ∷ 4 ∷ 0 ∷ 2 ∷ 1 ∷ []) ∷
-      (4 ∷ 3 ∷ 5 ∷ 1 ∷ 0 ∷ 2 ∷ []) ∷
-      (5 ∷ 4 ∷ 3 ∷ 2 ∷ 1 ∷ 0 ∷ []) ∷
+      (a ∷ b ∷ c ∷ d ∷ e ∷ f ∷ []) ∷
+      (b ∷ c ∷ a ∷ e ∷ f ∷ d ∷ []) ∷
+      (c ∷ a ∷ b ∷ f ∷ d ∷ e ∷ []) ∷
+      (d ∷ f ∷ e ∷ a ∷ c ∷ b ∷ []) ∷
+      (e ∷ d ∷ f ∷ b ∷ a ∷ c ∷ []) ∷
+      (f ∷ e ∷ d ∷ c ∷ b ∷ a ∷ []) ∷
       [];
-  mirror = 0 ∷ 2 ∷ 1 ∷ 3 ∷ 5 ∷ 4 ∷ [];
+  mirror = a ∷ c ∷ b ∷ d ∷ f ∷ e ∷ [];
 }
 
 abbrev pub pyramid : Template
 pyramid = record {
   kind = 5;
   corners = 5;
-  edges = (0 ∷ 1 ∷ []) ∷ (1 ∷ 2 ∷ []) ∷ (2 ∷ 3 ∷ []) ∷ (0 ∷ 3 ∷ []) ∷ (0 ∷ 4 ∷ []) ∷ (1 ∷ 4 ∷ []) ∷ (2 ∷ 4 ∷ []) ∷ (3 ∷ 4 ∷ []) ∷ [];
-  triangles = (0 ∷ 1 ∷ 4 ∷ []) ∷ (1 ∷ 2 ∷ 4 ∷ []) ∷ (2 ∷ 3 ∷ 4 ∷ []) ∷ (0 ∷ 3 ∷ 4 ∷ []) ∷ [];
-  quads = (0 ∷ 1 ∷ 2 ∷ 3 ∷ []) ∷ [];
-  triples = (0 ∷ 1 ∷ 3 ∷ 4 ∷ []) ∷ (1 ∷ 2 ∷ 0 ∷ 4 ∷ []) ∷ (2 ∷ 3 ∷ 1 ∷ 4 ∷ []) ∷ (3 ∷ 0 ∷ 2 ∷ 4 ∷ []) ∷ [];
-  order = 0 ∷ 1 ∷ 2 ∷ 3 ∷ 4 ∷ [];
+  edges = (a ∷ b ∷ []) ∷ (b ∷ c ∷ []) ∷ (c ∷ d ∷ []) ∷ (a ∷ d ∷ []) ∷ (a ∷ e ∷ []) ∷ (b ∷ e ∷ []) ∷ (c ∷ e ∷ []) ∷ (d ∷ e ∷ []) ∷ [];
+  triangles = (a ∷ b ∷ e ∷ []) ∷ (b ∷ c ∷ e ∷ []) ∷ (c ∷ d ∷ e ∷ []) ∷ (a ∷ d ∷ e ∷ []) ∷ [];
+  quads = (a ∷ b ∷ c ∷ d ∷ []) ∷ [];
+  triples = (a ∷ b ∷ d ∷ e ∷ []) ∷ (b ∷ c ∷ a ∷ e ∷ []) ∷ (c ∷ d ∷ b ∷ e ∷ []) ∷ (d ∷ a ∷ c ∷ e ∷ []) ∷ [];
+  order = a ∷ b ∷ c ∷ d ∷ e ∷ [];
   places = 0 ∷ 1 ∷ 2 ∷ 3 ∷ 4 ∷ [];
   search =
       place [] [] ∷
@@ -131,14 +155,14 @@ pyramid = record {
       place (0 ∷ []) (0 ∷ 2 ∷ []) ∷
       place [] (0 ∷ 1 ∷ 2 ∷ 3 ∷ []) ∷
       [];
-  less = (0 ∷ 1 ∷ []) ∷ (0 ∷ 2 ∷ []) ∷ (0 ∷ 3 ∷ []) ∷ [];
+  less = (a ∷ b ∷ []) ∷ (a ∷ c ∷ []) ∷ (a ∷ d ∷ []) ∷ [];
   turns =
-      (0 ∷ 1 ∷ 2 ∷ 3 ∷ 4 ∷ []) ∷
-      (1 ∷ 2 ∷ 3 ∷ 0 ∷ 4 ∷ []) ∷
-      (2 ∷ 3 ∷ 0 ∷ 1 ∷ 4 ∷ []) ∷
-      (3 ∷ 0 ∷ 1 ∷ 2 ∷ 4 ∷ []) ∷
+      (a ∷ b ∷ c ∷ d ∷ e ∷ []) ∷
+      (b ∷ c ∷ d ∷ a ∷ e ∷ []) ∷
+      (c ∷ d ∷ a ∷ b ∷ e ∷ []) ∷
+      (d ∷ a ∷ b ∷ c ∷ e ∷ []) ∷
       [];
-  mirror = 0 ∷ 3 ∷ 2 ∷ 1 ∷ 4 ∷ [];
+  mirror = a ∷ d ∷ c ∷ b ∷ e ∷ [];
 }
 
 -- the kinds, in the order of the listing
@@ -153,7 +177,7 @@ templateOf k = cond (eqb k 8) hexahedron (cond (eqb k 6) prism pyramid)
 
 -- the vertices of a tuple at these corners
 abbrev pub at : List ℕ → List ℕ → List ℕ
-at c ks = map (λ k. getD c k 0) ks
+at tuple ks = map (λ k. getD tuple k 0) ks
 
 -- eight numbers, 0 where the tuple has none
 abbrev pub eight : List ℕ → List ℕ
