@@ -2,4 +2,3 @@ pub mod Grow
 pub mod OneKind
 pub mod Full
 pub mod Next
-pub mod Rows
