@@ -3,4 +3,3 @@ pub mod Mirror
 pub mod Grow
 pub mod Once
 pub mod Search
-pub mod Worked

@@ -1,4 +1,3 @@
 pub mod Turned
 pub mod Once
 pub mod Pruned
-pub mod Rows

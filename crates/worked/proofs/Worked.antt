@@ -1,13 +1,13 @@
--- The rows of `specs/Rows.antt` hold. The full lists are those of crate `once`, and the calls follow from them by
--- computation; so do the answers of the check, from the bytes.
+-- The rows of `specs/Rows.antt` hold. The calls follow by computation from the full lists; least forms, and from the
+-- bytes the answers of the check, are computed.
 -- Assumes nothing.
 use Prim.Native.Nat.{ℕ}
 use mathlib.Core.Path.{_≡_, refl, sym, _∙_, ap}
 use mathlib.Core.Bool.{cond}
-use mathlib.Core.List.{List, [], _∷_, _++_, map}
+use mathlib.Core.List.{List, [], _∷_, _++_}
 use native.Mathlib.Omega.{arith}
 use lib.Dec.{eqb, ltb}
-use lib.ListN.{length, getD, drop}
+use lib.ListN.{length, drop}
 use Rattle.base.specs.Lists.{keep, spread}
 use Rattle.base.specs.Refusals.{firstOf}
 use Rattle.space.specs.Box.{box}
@@ -17,13 +17,9 @@ use Rattle.layout.specs.Layout.{vertices, decoded, lengthRight, countsRight, la
 use Rattle.tets.specs.Tets.{boxAt, outside, twice, flat}
 use Rattle.facets.specs.Facets.{opposite, full, crowded, astray, clashes, clashing, folded}
 use Rattle.arrays.specs.Refusals.{refusals, refusal, answered}
-use Rattle.turning.specs.declared.Least.the-variants.{Form}
 use Rattle.least.specs.Least.{rises, risesAt}
 use Rattle.turning.specs.Form.{leastBy, formBy, leastForm}
-use Rattle.cells.specs.Full.{Cell, cell, fullList}
-use Rattle.once.specs.Rows as once
-use Rattle.once.specs.Rows.{meshP, meshC, listC}
-use Rattle.once.proofs.Worked as found
+use Rattle.cells.specs.Full.{Cell, fullList}
 use Rattle.neighbours.specs.Table.{rowOf, rowsOf, offsets, tableBy, neighboursOf, tableOf}
 use Rattle.portions.specs.Portions.{Portion, reply, refused, before, isAfter, after, records, lastMark, portionOf, portion}
 use Rattle.record.specs.Entries.{entries}
@@ -33,7 +29,9 @@ use Rattle.records.specs.Marks.{says}
 use Rattle.portioning.specs.Portion.{barred, portionBy, tableLeft, Portioned}
 use Rattle.portioning.proofs.Promised.{bars-file, bars-past}
 use Rattle.listing.proofs.File.{accepted-passed}
-use Rattle.worked.specs.Rows.{fileP, fileC, mixed, turned, tableP, tableC, Reply, left, formed, calling, least, ask, checks, Worked}
+use Rattle.worked.specs.Meshes.{meshP, meshC, listP, listC}
+use Rattle.worked.specs.Rows.{fileP, fileC, mixed, turned, tableP, tableC, Reply, left, calling, ask, forms, calls, checks, RowsHold, Worked}
+use Rattle.worked.proofs.Lists.{full-P, full-C, full-mixed, lists-hold}
 
 -- ---- the files' meshes and refusals
 
@@ -70,26 +68,6 @@ flat-turned : refusal turned ≡ 7
 unfolding reading
 flat-turned = refl
 
--- ---- their full lists
-
-abbrev listedOf : once.Reply → List Cell
-listedOf (once.listed cs) = cs
-listedOf (once.numbers ns) = []
-listedOf (once.judged bs n) = []
-listedOf (once.formed n l) = []
-
-full-P : fullList meshP ≡ cell 5 (0 ∷ 1 ∷ 2 ∷ 3 ∷ 4 ∷ []) (0 ∷ 1 ∷ []) ∷ []
-unfolding once.ask
-full-P = ap (λ rs. listedOf (getD rs 0 (once.listed []))) found.worked
-
-full-C : fullList (meshC 0) ≡ listC
-unfolding once.ask
-full-C = ap (λ rs. listedOf (getD rs 3 (once.listed []))) found.worked
-
-full-mixed : fullList (meshC 1) ≡ []
-unfolding once.ask
-full-mixed = ap (λ rs. listedOf (getD rs 5 (once.listed []))) found.worked
-
 -- ---- their tables
 
 unfoldable tabling : ℕ
@@ -123,9 +101,9 @@ module _ (k table room : List ℕ) where
   unfoldable roomed : List ℕ → ℕ
   roomed ts = cond (ltb (length table) (length ts)) 10 (cond (ltb (length room) (tetRule .size)) 11 0)
 
-  calls : (f : List ℕ) → ask (calling f k table room) ≡ replied (barred (refusals f) (decoded f) (vertices f) (length table) (length room)) (fullList (decoded f)) (tableOf (decoded f) (vertices f))
+  call : (f : List ℕ) → ask (calling f k table room) ≡ replied (barred (refusals f) (decoded f) (vertices f) (length table) (length room)) (fullList (decoded f)) (tableOf (decoded f) (vertices f))
   unfolding ask portionBy tableLeft replied
-  calls f = refl
+  call f = refl
 
   -- of an accepted file
   bars : (f : List ℕ) → refusal f ≡ 0 → barred (refusals f) (decoded f) (vertices f) (length table) (length room) ≡ roomed (tableOf (decoded f) (vertices f))
@@ -133,14 +111,14 @@ module _ (k table room : List ℕ) where
   bars f e = bars-past (refusals f) (decoded f) (vertices f) (accepted-passed f e) (length table) (length room)
 
   accepts : (f : List ℕ) → refusal f ≡ 0 → ask (calling f k table room) ≡ replied (roomed (tableOf (decoded f) (vertices f))) (fullList (decoded f)) (tableOf (decoded f) (vertices f))
-  accepts f e = calls f ∙ ap (λ x. replied x (fullList (decoded f)) (tableOf (decoded f) (vertices f))) (bars f e)
+  accepts f e = call f ∙ ap (λ x. replied x (fullList (decoded f)) (tableOf (decoded f) (vertices f))) (bars f e)
 
-  calls-P : ask (calling fileP k table room) ≡ replied (roomed tableP) (cell 5 (0 ∷ 1 ∷ 2 ∷ 3 ∷ 4 ∷ []) (0 ∷ 1 ∷ []) ∷ []) tableP
+  calls-P : ask (calling fileP k table room) ≡ replied (roomed tableP) listP tableP
   calls-P =
       accepts fileP sound-P
       ∙ ap (λ m. replied (roomed (tableOf m 5)) (fullList m) (tableOf m 5)) reads-P
       ∙ ap (λ cs. replied (roomed (tableOf meshP 5)) cs (tableOf meshP 5)) full-P
-      ∙ ap (λ ts. replied (roomed ts) (cell 5 (0 ∷ 1 ∷ 2 ∷ 3 ∷ 4 ∷ []) (0 ∷ 1 ∷ []) ∷ []) ts) table-P
+      ∙ ap (λ ts. replied (roomed ts) listP ts) table-P
 
   calls-C : ask (calling fileC k table room) ≡ replied (roomed tableC) listC tableC
   calls-C =
@@ -159,7 +137,7 @@ module _ (k table room : List ℕ) where
   calls-turned : ask (calling turned k table room) ≡ left (refused 7) table room
   unfolding replied refusal
   calls-turned =
-      calls turned
+      call turned
       ∙ ap (λ x. replied x (fullList (decoded turned)) (tableOf (decoded turned) 8)) (bars-file (refusals turned) (decoded turned) (vertices turned) (length table) (length room) (omega (arith, flat-turned)) ∙ flat-turned)
 
   -- any outcome of a call that its promise permits is the one that the row says
@@ -173,25 +151,26 @@ unfoldable opened : ℕ
 unfolding keep spread before isAfter after records lastMark portionOf portion key entries replied roomed
 opened = 0
 
-least-8 : ask (least 8 (1 ∷ 2 ∷ 3 ∷ 0 ∷ 5 ∷ 6 ∷ 7 ∷ 4 ∷ [])) ≡ formed 0 (Form 0 1 2 3 4 5 6 7)
+forms-hold : RowsHold forms
 unfolding ask leastForm formBy leastBy risesAt rises keep
-least-8 = refl
+forms-hold = refl
 
-checked-right : map (λ r. ask (r .question)) checks ≡ map (λ r. r .reply) checks
+checks-hold : RowsHold checks
 unfolding ask reading
-checked-right = refl
+checks-hold = refl
 
 -- one row and those after it
 infixr 5 _also_
 _also_ : {x y : Reply} {xs ys : List Reply} → x ≡ y → xs ≡ ys → x ∷ xs ≡ y ∷ ys
 p also q = λ i. p i ∷ q i
 
-pub worked : Worked
+calls-hold : RowsHold calls
 unfolding opened
-worked =
+calls-hold =
     calls-P _ _ _
     also calls-P _ _ _
     also calls-P _ _ _
+    also calls-C _ _ _
     also calls-C _ _ _
     also calls-C _ _ _
     also calls-C _ _ _
@@ -211,5 +190,7 @@ worked =
     also calls-C _ _ _
     also calls-C _ _ _
     also calls-C _ _ _
-    also least-8
-    also checked-right
+    also refl
+
+pub worked : Worked
+worked = λ i. lists-hold i ++ forms-hold i ++ calls-hold i ++ checks-hold i

@@ -1,4 +1,4 @@
--- Files from what they say, and the meshes worked by hand.
+-- Files from what they say, and those of the meshes worked by hand.
 -- Assumes nothing.
 use Prim.Native.Nat.{ℕ, _+_, _*_, _/_, _%_, _-_}
 use mathlib.Core.List.{List, [], _∷_, _++_}
@@ -38,11 +38,11 @@ file vs ts =
     let t = length ts in
     header n 24 t (24 + 12 * n) (24 + 12 * n + 10 * t) 0 ++ flat vs ++ flat ts
 
--- ---- the meshes
+-- ---- the files of the meshes
 
--- the square pyramid, with these tetrahedra
-abbrev pub pyramid : List (List ℕ) → List ℕ
-pyramid ts = file (vertex 0 0 0 ∷ vertex 2 0 0 ∷ vertex 2 2 0 ∷ vertex 0 2 0 ∷ vertex 0 0 2 ∷ []) ts
+-- a square and a vertex above it, with these tetrahedra
+abbrev pub tent : List (List ℕ) → List ℕ
+tent ts = file (vertex 0 0 0 ∷ vertex 2 0 0 ∷ vertex 2 2 0 ∷ vertex 0 2 0 ∷ vertex 0 0 2 ∷ []) ts
 
 -- the unit cube, with this last tetrahedron
 abbrev pub cube : List ℕ → List ℕ

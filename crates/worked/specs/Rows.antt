@@ -1,32 +1,37 @@
--- The meshes worked by hand, from the bytes of their files: the check's answer, calls of `portion`, a least form and
--- boxes, in one table of questions and answers under one claim.
+-- The meshes worked by hand, in one table of questions and answers under one claim: their full lists and tuples that
+-- fail; least forms; and from the bytes of their files the check's answer, calls of `portion` and boxes.
 -- Assumes nothing.
 use Prim.Native.Nat.{ℕ}
 use mathlib.Core.Path.{_≡_}
 use mathlib.Core.Bool.{true, false}
 use mathlib.Core.List.{List, [], _∷_, _++_, map}
+use lib.Dec.{eqb}
 use lib.IntN.{ℤ, pos, negsuc}
 use lib.ListN.{length, take, replicate}
+use Rattle.base.specs.Lists.{keep, equal}
 use Rattle.space.specs.Box.{box}
-use Rattle.space.specs.Mesh.{point}
+use Rattle.space.specs.Mesh.{Mesh, point}
 use Rattle.layout.specs.Layout.{vertices, decoded}
 use Rattle.arrays.specs.Refusals.{refusals, checked}
 use Rattle.arrays.specs.declared.Checked.{Checked}
 use Rattle.arrays.specs.declared.Checked.the-variants.{Accepted, Refused}
+use Rattle.templates.specs.Tables.{Template, hexahedron, pyramid, at}
 use Rattle.turning.specs.declared.Least.{Least}
-use Rattle.turning.specs.declared.Least.the-variants.{Form}
+use Rattle.turning.specs.declared.Least.the-variants.{Form, Refused as NoForm}
 use Rattle.turning.specs.Form.{leastForm, leastNumber}
-use Rattle.once.specs.Rows.{listC}
+use Rattle.cells.specs.Cells.{boxAt, firstFailing}
+use Rattle.cells.specs.Full.{Cell, cell, cellsOf, fullList}
 use Rattle.portions.specs.Portions.{Answer, refused, given, records}
 use Rattle.rule.specs.Rule.{tetRule}
 use Rattle.portioning.specs.Portion.{portionBy, tableLeft, roomLeft}
-use Rattle.worked.specs.Files.{u16, header, vertex, joins, file, minus, pyramid, cube, fan, lone}
+use Rattle.worked.specs.Files.{u16, header, vertex, joins, file, minus, tent, cube, fan, lone}
+use Rattle.worked.specs.Meshes.{meshP, meshP', meshC, meshC', cellC, listP, listP', listC}
 
 -- ---- the files
 
 -- two tetrahedra on one facet
 abbrev pub fileP : List ℕ
-fileP = pyramid (joins 0 1 2 4 ∷ joins 0 2 3 4 ∷ [])
+fileP = tent (joins 0 1 2 4 ∷ joins 0 2 3 4 ∷ [])
 
 -- the cube; with its last tetrahedron in part 1; with that tetrahedron's vertices in another order
 abbrev pub fileC : List ℕ
@@ -86,30 +91,53 @@ lastC = (5 ∷ 2 ∷ 5 ∷ 7 ∷ 3 ∷ 0 ∷ unused 3) ++ (2 ∷ 1 ∷ 4 ∷ unu
 -- ---- the questions, and the answers by the definitions
 
 pub data Question : Type 0 where
+  -- the full list of a mesh; how many cells of each of these kinds; the cells with exactly these tetrahedra
+  listing : Mesh → Question
+  counting : Mesh → (kinds : List ℕ) → Question
+  sharing : Mesh → (tets : List ℕ) → Question
+  -- the cells of one kind
+  listingKind : Mesh → Template → Question
+  -- a tuple's corner boxes, and the first condition that it fails
+  judging : Mesh → Template → (tuple : List ℕ) → Question
+  -- the least form of a tuple of this kind
+  least : (kind : ℕ) (tuple : List ℕ) → Question
   -- the check of a file
   checking : (file : List ℕ) → Question
   -- a call on the file, from the mark on, with this table and this room
   calling : (file mark table room : List ℕ) → Question
-  least : ℕ → List ℕ → Question
   -- the box of four vertices of a file
   boxing : (file : List ℕ) (a b c d : ℕ) → Question
 
 pub data Reply : Type 0 where
+  listed : List Cell → Reply
+  counted : List ℕ → Reply
+  judged : List ℤ → ℕ → Reply
+  -- a least form or a refusal, with the refusal's number
+  formed : ℕ → Least → Reply
   told : Checked → Reply
   -- the answer, and what the table and the room hold afterwards
   left : Answer → (table room : List ℕ) → Reply
-  -- a least form or a refusal, with the refusal's number
-  formed : ℕ → Least → Reply
   boxed : ℤ → Reply
 
+unfoldable pub counts : List ℕ → List Cell → List ℕ
+counts ks ds = map (λ k. length (keep (λ d. eqb (d .kind) k) ds)) ks
+
+unfoldable pub withTets : List ℕ → List Cell → List Cell
+withTets es ds = keep (λ d. equal (d .tets) es) ds
+
 unfoldable pub ask : Question → Reply
+ask (listing m) = listed (fullList m)
+ask (counting m ks) = counted (counts ks (fullList m))
+ask (sharing m es) = listed (withTets es (fullList m))
+ask (listingKind m t) = listed (cellsOf m t)
+ask (judging m t c) = judged (map (λ ks. boxAt m (at c ks)) (t .triples)) (firstFailing m t c)
+ask (least k c) = formed (leastNumber (leastForm k c)) (leastForm k c)
 ask (checking f) = told (checked f)
 ask (calling f k table room) =
     left
     (portionBy (refusals f) (decoded f) (vertices f) k (length table) (length room) .answer)
     (tableLeft (refusals f) (decoded f) (vertices f) table (length room))
     (roomLeft (refusals f) (decoded f) (vertices f) k (length table) room)
-ask (least k c) = formed (leastNumber (leastForm k c)) (leastForm k c)
 ask (boxing f a b c d) =
     let p = point (decoded f) in
     boxed (box (p a) (p b) (p c) (p d))
@@ -120,6 +148,41 @@ pub record Row : Type 0 where
 
 abbrev pub row : Question → Reply → Row
 row q r = record { question = q; reply = r }
+
+-- ---- full lists
+
+abbrev pub lists : List Row
+lists =
+    -- P: one cell; the other two pyramids on that facet have a corner box of 0
+    row (listing meshP) (listed listP) ∷
+    row (judging meshP pyramid (1 ∷ 4 ∷ 3 ∷ 2 ∷ 0 ∷ [])) (judged (pos 8 ∷ pos 8 ∷ pos 8 ∷ pos 0 ∷ []) 4) ∷
+    row (judging meshP pyramid (0 ∷ 3 ∷ 4 ∷ 1 ∷ 2 ∷ [])) (judged (pos 0 ∷ pos 8 ∷ pos 8 ∷ pos 8 ∷ []) 4) ∷
+    -- C, and C in two parts
+    row (listing (meshC 0)) (listed listC) ∷
+    row (counting (meshC 0) (8 ∷ 6 ∷ 5 ∷ [])) (counted (1 ∷ 12 ∷ 12 ∷ [])) ∷
+    row (listing (meshC 1)) (listed []) ∷
+    -- three cells on the same two tetrahedra, with different edges
+    row (sharing (meshC 0) (0 ∷ 4 ∷ []))
+    (listed (cell 5 (0 ∷ 1 ∷ 2 ∷ 7 ∷ 5 ∷ []) (0 ∷ 4 ∷ []) ∷ cell 5 (0 ∷ 7 ∷ 5 ∷ 1 ∷ 2 ∷ []) (0 ∷ 4 ∷ []) ∷ cell 5 (1 ∷ 5 ∷ 7 ∷ 2 ∷ 0 ∷ []) (0 ∷ 4 ∷ []) ∷ [])) ∷
+    -- a boundary tetrahedron, 2 and 5, is none of the cell's own
+    row (listing meshP') (listed listP') ∷
+    row (listingKind meshC' hexahedron) (listed (cellC ∷ [])) ∷
+    []
+
+-- ---- least forms
+
+-- of each kind, unused places counting for nothing; then another kind, and two equal corners of each kind
+abbrev pub forms : List Row
+forms =
+    row (least 8 (1 ∷ 2 ∷ 3 ∷ 0 ∷ 5 ∷ 6 ∷ 7 ∷ 4 ∷ [])) (formed 0 (Form 0 1 2 3 4 5 6 7)) ∷
+    row (least 6 (5 ∷ 4 ∷ 3 ∷ 2 ∷ 1 ∷ 0 ∷ 3 ∷ 3 ∷ [])) (formed 0 (Form 0 1 2 3 4 5 0 0)) ∷
+    row (least 5 (9 ∷ 4 ∷ 7 ∷ 2 ∷ 3 ∷ 9 ∷ 9 ∷ 2 ∷ [])) (formed 0 (Form 2 9 4 7 3 0 0 0)) ∷
+    row (least 7 (0 ∷ 1 ∷ 2 ∷ 3 ∷ 4 ∷ 5 ∷ 6 ∷ 7 ∷ [])) (formed 13 NoForm) ∷
+    row (least 0 (0 ∷ 1 ∷ 2 ∷ 3 ∷ 4 ∷ 5 ∷ 6 ∷ 7 ∷ [])) (formed 13 NoForm) ∷
+    row (least 8 (0 ∷ 1 ∷ 2 ∷ 3 ∷ 4 ∷ 5 ∷ 6 ∷ 0 ∷ [])) (formed 13 NoForm) ∷
+    row (least 6 (3 ∷ 1 ∷ 2 ∷ 1 ∷ 4 ∷ 5 ∷ 6 ∷ 7 ∷ [])) (formed 13 NoForm) ∷
+    row (least 5 (0 ∷ 1 ∷ 2 ∷ 3 ∷ 0 ∷ 5 ∷ 6 ∷ 7 ∷ [])) (formed 13 NoForm) ∷
+    []
 
 -- ---- the answer of the check
 
@@ -170,7 +233,7 @@ single =
     ∷ refuse (cube (joins 0 5 2 5)) 6
     -- a box of -2, a box of 0
     ∷ refuse turned 7
-    ∷ refuse (pyramid (joins 0 1 2 3 ∷ [])) 7
+    ∷ refuse (tent (joins 0 1 2 3 ∷ [])) 7
     -- three on a facet
     ∷ refuse (fan (joins 0 1 2 3 ∷ joins 2 1 0 5 ∷ joins 1 2 0 4 ∷ [])) 8
     -- two on one side of a facet; one tetrahedron in two parts
@@ -185,8 +248,8 @@ double =
     ∷ refuse (header 513 28 0 24 24 0) 2
     ∷ refuse (header 1 24 0 36 36 7 ++ vertex 50001 0 0) 3
     ∷ refuse (file (vertex 50001 0 0 ∷ []) (joins 0 1 2 3 ∷ [])) 4
-    ∷ refuse (pyramid (joins 0 1 1 4 ∷ joins 0 2 3 5 ∷ [])) 5
-    ∷ refuse (pyramid (joins 0 2 1 4 ∷ joins 0 2 3 0 ∷ [])) 6
+    ∷ refuse (tent (joins 0 1 1 4 ∷ joins 0 2 3 5 ∷ [])) 5
+    ∷ refuse (tent (joins 0 2 1 4 ∷ joins 0 2 3 0 ∷ [])) 6
     ∷ refuse (fan (joins 0 1 2 3 ∷ joins 0 1 2 3 ∷ joins 0 2 1 3 ∷ [])) 7
     ∷ refuse (fan (joins 0 1 2 3 ∷ joins 0 1 2 4 ∷ joins 1 2 0 4 ∷ [])) 8
     ∷ []
@@ -222,6 +285,8 @@ calls =
     giving start (records tetRule listC) 0 (given 25 true zeros) ∷
     giving start (records tetRule (take 24 listC)) 0 (given 24 false (mark 5 2 5 4 7 0 0 0 0)) ∷
     giving (mark 5 2 5 4 7 0 0 0 0) lastC 0 (given 1 true zeros) ∷
+    -- from that mark, whatever stands beyond the corners
+    giving (mark 5 2 5 4 7 0 9 9 9) lastC 0 (given 1 true zeros) ∷
     -- C from the start mark with 34 entries, with 35, and with 69
     refusing fileC start 45 34 11 ∷
     giving start firstC 0 (given 1 false (mark 8 0 1 2 3 4 5 6 7)) ∷
@@ -235,7 +300,8 @@ calls =
     -- a box of -2, whatever the table and the room
     refusing turned start 45 35 7 ∷
     refusing turned start 0 0 7 ∷
-    -- marks that are never handed out: kinds that are none; no cell's tuple, with numbers beyond the corners; a tuple past all
+    -- marks that are never handed out: kinds that are none; no cell's tuple, with numbers beyond the corners; a tuple
+    -- past all
     giving (mark 7 9 9 9 9 9 9 9 9) secondC 0 (given 1 false (mark 6 0 1 2 4 5 7 0 0)) ∷
     giving (mark 9 9 9 9 9 9 9 9 9) firstC 0 (given 1 false (mark 8 0 1 2 3 4 5 6 7)) ∷
     giving (mark 6 0 1 2 4 5 6 65535 65535) secondC 0 (given 1 false (mark 6 0 1 2 4 5 7 0 0)) ∷
@@ -244,15 +310,17 @@ calls =
     giving (mark 3 0 0 0 0 0 0 0 0) [] 35 (given 0 true zeros) ∷
     -- nine zeros
     giving zeros [] 35 (given 0 true zeros) ∷
-    -- least form
-    row (least 8 (1 ∷ 2 ∷ 3 ∷ 0 ∷ 5 ∷ 6 ∷ 7 ∷ 4 ∷ [])) (formed 0 (Form 0 1 2 3 4 5 6 7)) ∷
     []
 
 -- ---- the table
 
 abbrev pub table : List Row
-table = calls ++ checks
+table = lists ++ forms ++ calls ++ checks
 
--- the claim: the definitions give each row's reply
+-- the definitions give the reply of each of these rows
+abbrev pub RowsHold : List Row → Type 0
+RowsHold rs = map (λ r. ask (r .question)) rs ≡ map (λ r. r .reply) rs
+
+-- the claim
 abbrev pub Worked : Type 0
-Worked = map (λ r. ask (r .question)) table ≡ map (λ r. r .reply) table
+Worked = RowsHold table
