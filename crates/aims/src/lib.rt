@@ -24,26 +24,26 @@ pub const HUB: usize = 24;
 pub struct Aim {
     pub some: bool,
     pub both: bool,
-    pub o: u16,
-    pub p: u16,
+    pub o: Vertex,
+    pub p: Vertex,
 }
 
 // By the vertices q that link the first three corners. One with many neighbours is barred: it may link both side faces only if it is place 3 itself.
 // Where at row 3 a pair links them, both are barred: one of them is a corner of that face.
 fn aim_among(n: usize, table: &[u16], x: usize, q: Linking) -> Aim
     requires { ⌜ Rowed n (now table) × ((x ≡ 3) ⊎ (x ≡ 11)) ⌝ }
-    ensures { λ r. ⌜ Aims (Covers q) x (r .some) (r .both) (r .o) (r .p) ⌝ }
+    ensures { λ r. ⌜ Aims (Covers q) x (r .some) (r .both) (r .o .0) (r .p .0) ⌝ }
 {
     let o = q.other;
     let p = q.vertex;
-    let v = fuller(n, table, Vertex(o), Vertex(p));
-    let row = row_of(n, table, Vertex(v));
+    let v = fuller(n, table, o, p);
+    let row = row_of(n, table, v);
     if row.size <= HUB {
         return Aim {
             some: true,
             both: true,
-            o: 65535,
-            p: 65535,
+            o: Vertex(65535),
+            p: Vertex(65535),
         };
     }
     if x == 3 {
@@ -68,7 +68,7 @@ fn aim_among(n: usize, table: &[u16], x: usize, q: Linking) -> Aim
 // face and links no other face of the place.
 fn aim_by(n: usize, table: &[u16], x: usize, q: Linking) -> Aim
     requires { ⌜ Rowed n (now table) × ((x ≡ 3) ⊎ (x ≡ 11)) ⌝ }
-    ensures { λ r. ⌜ Aims (Covers q) x (r .some) (r .both) (r .o) (r .p) ⌝ }
+    ensures { λ r. ⌜ Aims (Covers q) x (r .some) (r .both) (r .o .0) (r .p .0) ⌝ }
 {
     if x == 3 {
         let p = q.vertex;
@@ -95,7 +95,7 @@ fn aim_by(n: usize, table: &[u16], x: usize, q: Linking) -> Aim
 // At row 16 any vertex may be barred: the apex links the first three corners, and so does another corner.
 pub fn aim_at(n: usize, table: &[u16], marks: &[u8], place: Place) -> Aim
     requires { ⌜ Lent n (now table) (now marks) ⌝ }
-    ensures { λ r. ⌜ Aims (LinksFirst n (now (table .entry)) (now (marks .entry)) (place .tuple)) (place .row) (r .some) (r .both) (r .o) (r .p) ⌝ }
+    ensures { λ r. ⌜ Aims (LinksFirst n (now (table .entry)) (now (marks .entry)) (place .tuple)) (place .row) (r .some) (r .both) (r .o .0) (r .p .0) ⌝ }
 {
     let t = place.tuple;
     let x = place.row;
@@ -103,7 +103,7 @@ pub fn aim_at(n: usize, table: &[u16], marks: &[u8], place: Place) -> Aim
     let b = Vertex(t[1]);
     if x != 3 {
         if x != 11 {
-            let mut p = 65535;
+            let mut p = Vertex(65535);
             if x == 16 {
                 p = fullest(n, table, marks, a, b);
             }

@@ -80,10 +80,10 @@ fn leap(
     requires { ⌜ now tables ≡ levels ⌝ }
     requires { ⌜ Lent n (now table) (now marks) × (lo ≤ n) ⌝ }
     requires { ⌜ Placed place ⌝ }
-    ensures { λ r. ⌜ Least (Follows n (now (table .entry)) (now (marks .entry)) (place .tuple) (place .row) (aim .o) (aim .p) (aim .both)) lo n r ⌝ }
+    ensures { λ r. ⌜ Least (Follows n (now (table .entry)) (now (marks .entry)) (place .tuple) (place .row) (aim .o .0) (aim .p .0) (aim .both)) lo n r ⌝ }
 {
-    let o = Vertex(aim.o);
-    let p = Vertex(aim.p);
+    let o = aim.o;
+    let p = aim.p;
     let one = edge_at(tables, place, 0, o, p);
     let v = beyond(n, table, marks, one, lo);
     if aim.both {

@@ -27,17 +27,17 @@ module _ {P : ℕ → Type 0} {s : Linking} where
 
   module _ {r : Linking} where
     -- the first
-    pub adds-first : s .some ≡ false → r .some ≡ true → r .pair ≡ false → ((y : ℕ) → P y → y ≡ r .vertex) → Adds P s r
+    pub adds-first : s .some ≡ false → r .some ≡ true → r .pair ≡ false → ((y : ℕ) → P y → y ≡ r .vertex .0) → Adds P s r
     adds-first e g z f = record {
       new = λ y p. record { some = g; one = λ h. f y p; two = λ h. absurd (true≢false (sym h ∙ z)) };
       old = λ y c. absurd (true≢false (sym (c .some) ∙ e));
     }
 
     -- the second: the pair is the single one of before and what is asked for
-    pub adds-second : s .single ≡ true → r .some ≡ true → r .single ≡ false → s .vertex ≡ r .vertex → ((y : ℕ) → P y → y ≡ r .other) → Adds P s r
+    pub adds-second : s .single ≡ true → r .some ≡ true → r .single ≡ false → s .vertex .0 ≡ r .vertex .0 → ((y : ℕ) → P y → y ≡ r .other .0) → Adds P s r
     adds-second e g z v f = record { new = λ y p. pair (inr (f y p)); old = λ y c. pair (inl (c .one e ∙ v)) }
       where
-        pair : {y : ℕ} → (y ≡ r .vertex) ⊎ (y ≡ r .other) → Covers r y
+        pair : {y : ℕ} → (y ≡ r .vertex .0) ⊎ (y ≡ r .other .0) → Covers r y
         pair t = record { some = g; one = λ h. absurd (true≢false (sym h ∙ z)); two = λ h. t }
 
     -- neither a single one nor a pair any more

@@ -12,8 +12,8 @@ use Rattle.linking.specs.declared.Linking.{Linking}
 -- x is among what was met: there is some; it is the vertex, where that is single, and the vertex or the other, where they are a pair
 pub record Covers (s : Linking) (x : ℕ) : Type 0 where
   pub some : s .some ≡ true
-  pub one : s .single ≡ true → x ≡ s .vertex
-  pub two : s .pair ≡ true → (x ≡ s .vertex) ⊎ (x ≡ s .other)
+  pub one : s .single ≡ true → x ≡ s .vertex .0
+  pub two : s .pair ≡ true → (x ≡ s .vertex .0) ⊎ (x ≡ s .other .0)
 
 -- what is asked for is among what was met
 abbrev pub Only : (ℕ → Type 0) → Linking → Type 0

@@ -21,18 +21,18 @@ pub struct Linking {
     pub some: bool,
     pub single: bool,
     pub pair: bool,
-    pub vertex: u16,
-    pub other: u16,
+    pub vertex: Vertex,
+    pub other: Vertex,
 }
 
 // Of two vertices, one with the most neighbours.
-pub fn fuller(n: usize, table: &[u16], x: Vertex, y: Vertex) -> u16
+pub fn fuller(n: usize, table: &[u16], x: Vertex, y: Vertex) -> Vertex
     requires { ⌜ Rowed n (now table) ⌝ }
-    ensures { λ r. ⌜ (r ≡ x .0) ⊎ (r ≡ y .0) ⌝ }
+    ensures { λ r. ⌜ (r ≡ x) ⊎ (r ≡ y) ⌝ }
 {
     let p = row_of(n, table, x);
     let q = row_of(n, table, y);
-    if p.size < q.size { y.0 } else { x.0 }
+    if p.size < q.size { y } else { x }
 }
 
 // A linking vertex more.
@@ -45,27 +45,28 @@ fn one_more(n: usize, table: &[u16], x: Vertex, s: Linking) -> Linking
             some: true,
             single: true,
             pair: false,
-            vertex: x.0,
-            other: x.0,
+            vertex: x,
+            other: x,
         };
     }
-    let y = Vertex(s.vertex);
+    let y = s.vertex;
     if s.single {
         return Linking {
             some: true,
             single: false,
             pair: true,
-            vertex: y.0,
-            other: x.0,
+            vertex: y,
+            other: x,
         };
     }
-    let z = Vertex(fuller(n, table, y, Vertex(s.other)));
+    let o = s.other;
+    let z = fuller(n, table, y, o);
     Linking {
         some: true,
         single: false,
         pair: false,
         vertex: fuller(n, table, x, z),
-        other: x.0,
+        other: x,
     }
 }
 
@@ -105,8 +106,8 @@ fn sole_row(n: usize, table: &[u16], marks: &[u8], row: &[u16], e: Edge, v: Vert
         some: false,
         single: false,
         pair: false,
-        vertex: 65535,
-        other: 65535,
+        vertex: Vertex(65535),
+        other: Vertex(65535),
     };
     let mut k = 0;
     while k < row.len() {
@@ -130,8 +131,8 @@ pub fn sole(n: usize, table: &[u16], marks: &[u8], e: Edge, v: Vertex) -> Linkin
             some: true,
             single: false,
             pair: false,
-            vertex: 65535,
-            other: 65535,
+            vertex: Vertex(65535),
+            other: Vertex(65535),
         };
     }
     let from = row.from;
@@ -140,22 +141,22 @@ pub fn sole(n: usize, table: &[u16], marks: &[u8], e: Edge, v: Vertex) -> Linkin
 }
 
 // Of the vertices that may make a facet with u and w, one with the most neighbours; where there is none or both have many, no vertex.
-pub fn fullest(n: usize, table: &[u16], marks: &[u8], u: Vertex, w: Vertex) -> u16
+pub fn fullest(n: usize, table: &[u16], marks: &[u8], u: Vertex, w: Vertex) -> Vertex
     requires { ⌜ Lent n (now table) (now marks) ⌝ }
-    ensures { λ r. ⌜ (r ≡ 65535) ⊎ (noted (now (marks .entry)) (u .0) (w .0) r ≡ true) ⌝ }
+    ensures { λ r. ⌜ (r .0 ≡ 65535) ⊎ (noted (now (marks .entry)) (u .0) (w .0) (r .0) ≡ true) ⌝ }
 {
     let row = shorter(n, table, u, w);
     if MANY < row.size {
-        return 65535;
+        return Vertex(65535);
     }
     let from = row.from;
     let end = from + row.size;
     let part = &table[from..end];
-    let mut p = 65535;
+    let mut p = Vertex(65535);
     let mut k = 0;
     while k < part.len() {
         if is_noted(marks, u, w, Vertex(part[k])) {
-            p = fuller(n, table, Vertex(part[k]), Vertex(p));
+            p = fuller(n, table, Vertex(part[k]), p);
         }
         k += 1;
     }

@@ -18,17 +18,17 @@ returns c = record { none = λ e. absurd (true≢false e); each = λ e. (refl, i
 
 returns-2 : tie.Need-returns-2
 returns-2 c =
-    let z = c .before .before .before .before .before .before .before in
+    let z = c .before .before .before .before .before .before .before .before .before in
     record { none = λ e. absurd (true≢false e); each = λ e. absurd (false≢true e); either = λ e. (z .pre .1, inr (omega arith, λ y l. ⊎-elim inr inl (l .two (c .if3 .taken)))) }
 
 returns-3 : tie.Need-returns-3
 returns-3 c =
-    let z = c .before .before .before .before .before .before .before in
+    let z = c .before .before .before .before .before .before .before .before .before in
     record { none = λ e. absurd (true≢false e); each = λ e. absurd (false≢true e); either = λ e. (z .pre .1, inl refl) }
 
 returns-4 : tie.Need-returns-4
 returns-4 c =
-    let z = c .before .before .before .before .before .before in
+    let z = c .before .before .before .before .before .before .before .before in
     record { none = λ e. absurd (true≢false e); each = λ e. absurd (false≢true e); either = λ e. (z .pre .1, inl refl) }
 
 pub aim-among-spec : {M : Type 1} → statement M

@@ -26,7 +26,7 @@ edge-at-requires-2 c κs = search needs
 beyond-requires-2 : tie.Need-beyond-requires-2
 beyond-requires-2 c κs =
     let b = c .before .before .before .before in
-    let z = b .before .before .before .before .before in
+    let z = b .before .before .before .before .before .before .before in
     (z .pre .1 .0 .0, b .beyond .ensures .most)
 
 returns-2 : tie.Need-returns-2
@@ -38,7 +38,7 @@ edge-at-requires-3 : tie.Need-edge-at-requires-3
 edge-at-requires-3 c κs = search needs
 
 beyond-requires-3 : tie.Need-beyond-requires-3
-beyond-requires-3 c κs = search needs
+beyond-requires-3 c κs = let z = c .before .before .before .before .before .before .before .before .before in z .pre .1 .0
 
 lower-requires : tie.Need-lower-requires
 lower-requires c κs = search needs

@@ -12,7 +12,7 @@ use Rattle.linking.proofs.fullest.Statement.{statement}
 use Rattle.linking.proofs.fullest.Tie as tie
 
 abbrev Inv-loop : tie.InvT-loop
-Inv-loop n table marks u w from end part p₀ k₀ p k = (p ≡ 65535) ⊎ (noted marks (u .0) (w .0) p ≡ true)
+Inv-loop n table marks u w from end part p₀ k₀ p k = (p .0 ≡ 65535) ⊎ (noted marks (u .0) (w .0) (p .0) ≡ true)
 
 abbrev μ-loop : tie.MeasureT-loop
 μ-loop n table marks u w from end part p₀ k₀ p k = length part - k

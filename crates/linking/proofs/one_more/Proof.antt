@@ -10,7 +10,7 @@ returns : tie.Need-returns
 returns c = adds-first (not-true _ (c .if1 .taken)) refl refl (λ y e. e)
 
 returns-2 : tie.Need-returns-2
-returns-2 c = adds-second {s = c .before .before .before .before .args .s} (c .if2 .taken) refl refl refl (λ y e. e)
+returns-2 c = adds-second {s = c .before .before .before .before .before .args .s} (c .if2 .taken) refl refl refl (λ y e. e)
 
 fuller-requires : tie.Need-fuller-requires
 fuller-requires c κs = search needs

@@ -17,11 +17,11 @@ abbrev μ-loop : tie.MeasureT-loop
 loop-holds : tie.Need-loop-holds Inv-loop μ-loop
 loop-holds c = only-row-none
 
-mul-t9 : tie.Need-mul-t9 Inv-loop μ-loop
-mul-t9 c = omega arith
+mul-t11 : tie.Need-mul-t11 Inv-loop μ-loop
+mul-t11 c = omega arith
 
-shared-slice-read-t12 : tie.Need-shared-slice-read-t12 Inv-loop μ-loop
-shared-slice-read-t12 c = omega arith
+shared-slice-read-t14 : tie.Need-shared-slice-read-t14 Inv-loop μ-loop
+shared-slice-read-t14 c = omega arith
 
 sole-at-requires : tie.Need-sole-at-requires Inv-loop μ-loop
 sole-at-requires c κs = c .before .before .before .before .before .before .pre
@@ -45,8 +45,8 @@ sole-row-spec =
     Inv-loop
     μ-loop
     loop-holds
-    mul-t9
-    shared-slice-read-t12
+    mul-t11
+    shared-slice-read-t14
     sole-at-requires
     add-k
     loop-less
