@@ -1,5 +1,5 @@
-// The look-ahead's aim at a place: which vertices cannot link the faces to come, by what links the first three corners of the tuple.
-// x is the row of a place in the tables of the levels.
+// The look-ahead's aim at a place: which vertices cannot link the faces to come, by what links the first three corners
+// of the tuple. x is the row of a place in the tables of the levels.
 use levels::Place;
 use levels::wide;
 use linking::Linking;
@@ -16,11 +16,12 @@ ghost use Rattle.reaching.specs.Reaching.{Lent};
 ghost use Rattle.linking.specs.Covers.{Covers};
 ghost use Rattle.aims.specs.Aims.{LinksFirst, Aims};
 
-// A vertex with more neighbours than this is barred, and a place looks ahead where its rows are longer. That is a matter of speed alone.
+// A vertex with more neighbours than this is barred, and a place looks ahead where its rows are longer. That is a
+// matter of speed alone.
 pub const HUB: usize = 24;
 
-// What the look-ahead at a place goes by: whether any cell goes on, whether both pairs of the row are asked for, and two vertices that may not link
-// them, which may be one.
+// What the look-ahead at a place goes by: whether any cell goes on, whether both pairs of the row are asked for, and
+// two vertices that may not link them, which may be one.
 pub struct Aim {
     pub some: bool,
     pub both: bool,
@@ -28,8 +29,9 @@ pub struct Aim {
     pub p: Vertex,
 }
 
-// By the vertices q that link the first three corners. One with many neighbours is barred: it may link both side faces only if it is place 3 itself.
-// Where at row 3 a pair links them, both are barred: one of them is a corner of that face.
+// By the vertices q that link the first three corners. One with many neighbours is barred: it may link both side faces
+// only if it is place 3 itself. Where at row 3 a pair links them, both are barred: one of them is a corner of that
+// face.
 fn aim_among(n: usize, table: &[u16], x: usize, q: Linking) -> Aim
     requires { ⌜ Rowed n (now table) × ((x ≡ 3) ⊎ (x ≡ 11)) ⌝ }
     ensures { λ r. ⌜ Aims (Covers q) x (r .some) (r .both) (r .o .0) (r .p .0) ⌝ }
@@ -64,8 +66,8 @@ fn aim_among(n: usize, table: &[u16], x: usize, q: Linking) -> Aim
     }
 }
 
-// At row 3 the face of the first three corners needs a vertex that links them: without one no cell goes on, and a sole one is a corner of that
-// face and links no other face of the place.
+// At row 3 the face of the first three corners needs a vertex that links them: without one no cell goes on, and a sole
+// one is a corner of that face and links no other face of the place.
 fn aim_by(n: usize, table: &[u16], x: usize, q: Linking) -> Aim
     requires { ⌜ Rowed n (now table) × ((x ≡ 3) ⊎ (x ≡ 11)) ⌝ }
     ensures { λ r. ⌜ Aims (Covers q) x (r .some) (r .both) (r .o .0) (r .p .0) ⌝ }

@@ -1,5 +1,5 @@
-// Hunting for the next vertex by the look-ahead's aim: at a place whose joined corners have many neighbours, which vertices can follow there is told by
-// the faces to come. x is the row of a place in the tables of the levels.
+// Hunting for the next vertex by the look-ahead's aim: at a place whose joined corners have many neighbours, which
+// vertices can follow there is told by the faces to come. x is the row of a place in the tables of the levels.
 use aims::Aim;
 use aims::HUB;
 use aims::aim_at;
@@ -34,7 +34,8 @@ fn floor_of(place: Place) -> usize
     if place.row < 14 { wide(t[0]) + 1 } else { 0 }
 }
 
-// The edge at the entries i and i + 1 of the place's row. What may not link it and the next corner is o, p and the place at entry i + 2.
+// The edge at the entries i and i + 1 of the place's row. What may not link it and the next corner is o, p and the
+// place at entry i + 2.
 fn edge_at(tables: &[u8], place: Place, i: usize, o: Vertex, p: Vertex) -> Edge
     requires { ⌜ now tables ≡ levels ⌝ }
     requires { ⌜ Placed place × (i < 4) ⌝ }
@@ -67,7 +68,8 @@ fn is_twice(tables: &[u8], x: usize) -> bool
     }
 }
 
-// The least vertex from lo on that can follow by the aim, or n; where both pairs are asked for, one that follows the second alone may come before it.
+// The least vertex from lo on that can follow by the aim, or n; where both pairs are asked for, one that follows the
+// second alone may come before it.
 fn leap(
     tables: &[u8],
     n: usize,
@@ -170,7 +172,8 @@ fn pair_size(tables: &[u8], n: usize, table: &[u16], place: Place, i: usize) -> 
     one.size
 }
 
-// Whether looking ahead pays where a row of this size would be gone through: a pair of its row has few neighbours beside it.
+// Whether looking ahead pays where a row of this size would be gone through: a pair of its row has few neighbours
+// beside it.
 fn is_far(tables: &[u8], n: usize, table: &[u16], place: Place, size: usize) -> bool
     requires { ⌜ (now tables ≡ levels) × (Rowed n (now table) × Placed place) ⌝ }
 {

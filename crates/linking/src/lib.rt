@@ -15,8 +15,9 @@ ghost use Rattle.neighbours.specs.Reading.{Rowed};
 ghost use Rattle.reaching.specs.Reaching.{Lent, Links, ByRow};
 ghost use Rattle.linking.specs.Covers.{Only, Adds, LinkAt};
 
-// The linking vertices that were met: whether there are some, whether it is a single one, vertex, or a pair, vertex and other.
-// Of more, vertex is one with the most neighbours. The choice is a matter of speed alone.
+// The linking vertices that were met: whether there are some, whether it is a single one, vertex, or a pair, vertex and
+// other. Of more, vertex is one with the most neighbours, or none, which is 65535. The choice is a matter of speed
+// alone.
 pub struct Linking {
     pub some: bool,
     pub single: bool,
@@ -117,8 +118,8 @@ fn sole_row(n: usize, table: &[u16], marks: &[u8], row: &[u16], e: Edge, v: Vert
     s
 }
 
-// The vertices that link w and v at u. None of them is left out; one that the marks merely do not exclude may be counted too. Where there are
-// many to look through, it is said that there may be several, and vertex is no vertex.
+// The vertices that link w and v at u. None of them is left out; one that the marks merely do not exclude may be
+// counted too. Where there are many to look through, it is said that there may be several, and vertex is no vertex.
 pub fn sole(n: usize, table: &[u16], marks: &[u8], e: Edge, v: Vertex) -> Linking
     requires { ⌜ Lent n (now table) (now marks) ⌝ }
     ensures { λ r. ⌜ Only (λ x. Links n (now (table .entry)) (now (marks .entry)) e x (v .0)) r ⌝ }
@@ -140,7 +141,8 @@ pub fn sole(n: usize, table: &[u16], marks: &[u8], e: Edge, v: Vertex) -> Linkin
     sole_row(n, table, marks, &table[from..end], e, v)
 }
 
-// Of the vertices that may make a facet with u and w, one with the most neighbours; where there is none or both have many, no vertex.
+// Of the vertices that may make a facet with u and w, one with the most neighbours; where there is none or both have
+// many, no vertex.
 pub fn fullest(n: usize, table: &[u16], marks: &[u8], u: Vertex, w: Vertex) -> Vertex
     requires { ⌜ Lent n (now table) (now marks) ⌝ }
     ensures { λ r. ⌜ (r .0 ≡ 65535) ⊎ (noted (now (marks .entry)) (u .0) (w .0) (r .0) ≡ true) ⌝ }
