@@ -54,7 +54,8 @@ third = 0 ∷ 0 ∷ 0 ∷ 0 ∷ 2 ∷ 3 ∷ 3 ∷ 6 ∷ 0 ∷ 0 ∷ 1 ∷ 0 ∷ 
 
 -- for each row of the levels' tables two times three places u, w and q,
 -- where the new corner, u and w are corners of a face or of two that meet, u is between,
--- and what links the new corner and w at u is not the corner at q; a row whose first two places are equal has no look-ahead
+-- and what links the new corner and w at u is not the corner at q;
+-- a row whose first two places are equal has no look-ahead
 abbrev pub ahead : List ℕ
 ahead =
     0 ∷ 0 ∷ 0 ∷ 0 ∷ 0 ∷ 0 ∷ 0 ∷ 0 ∷ 0 ∷ 0 ∷ 0 ∷ 0 ∷ 0 ∷ 1 ∷ 1 ∷ 0 ∷ 1 ∷ 1 ∷ 0 ∷ 2 ∷ 1 ∷ 0 ∷ 1 ∷ 2 ∷ 0 ∷ 0 ∷ 0 ∷ 0 ∷ 0 ∷ 0 ∷ 0 ∷ 0 ∷ 0 ∷ 0 ∷ 0 ∷ 0 ∷ 0 ∷ 0 ∷ 0 ∷ 0 ∷ 0 ∷ 0 ∷ 0 ∷ 0 ∷ 0 ∷ 0 ∷ 0 ∷ 0 ∷
