@@ -1,4 +1,5 @@
--- Looking ahead: what is known of the vertices that link the first three corners of a tuple, and so cannot link the faces to come.
+-- Looking ahead: what is known of the vertices that link the first three corners of a tuple,
+-- and so cannot link the faces to come.
 -- Assumes nothing.
 use Prim.Native.Nat.{ℕ, _+_}
 use mathlib.Core.Path.{_≡_}
@@ -23,9 +24,11 @@ firstEdge t = edge (getD t 0 0) (getD t 1 0) (getD t 0 0 + 1) (getD t 1 0) (getD
 abbrev pub LinksFirst : ℕ → List ℕ → List ℕ → List ℕ → ℕ → Type 0
 LinksFirst n table ms t y = Links n table ms (firstEdge t) y (getD t 2 0)
 
--- what is known of the aim at row x by what links the first three; rows 3 and 11 are place 3 of the kinds 8 and 6, row 16 is place 2 of kind 5
--- where there is none, nothing links the first three; where both edges are asked for, one vertex is barred, and it is no vertex, or it is row 16, or
--- nothing but it links the first three; where one of them is, one vertex is barred or nothing but o and p links the first three
+-- what is known of the aim at row x by what links the first three; rows 3 and 11 are place 3 of the kinds 8 and 6,
+-- row 16 is place 2 of kind 5
+-- where there is none, nothing links the first three; where both edges are asked for, one vertex is barred,
+-- and it is no vertex, or it is row 16, or nothing but it links the first three;
+-- where one of them is, one vertex is barred or nothing but o and p links the first three
 pub record Aims (first : ℕ → Type 0) (x : ℕ) (some both : Bool) (o p : ℕ) : Type 0 where
   pub none : some ≡ false → (x ≡ 3) × ((y : ℕ) → first y → ⊥)
   pub each : both ≡ true → (o ≡ p) × ((p ≡ 65535) ⊎ ((x ≡ 16) ⊎ ((x ≡ 3) × ((y : ℕ) → first y → y ≡ p))))

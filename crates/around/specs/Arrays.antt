@@ -8,7 +8,8 @@ use lib.ListN.{length}
 use Rattle.space.specs.Arrays.{Close}
 use Rattle.around.specs.Index.{Indexed}
 
--- the mesh of n vertices: its coordinates, in bounds, three a vertex; its labels, four a tetrahedron, with their index; a part a tetrahedron
+-- the mesh of n vertices: its coordinates, in bounds, three a vertex; its labels, four a tetrahedron, with their index;
+-- a part a tetrahedron
 pub record Arrays (zs : List ℤ) (ls ps : List ℕ) (n : ℕ) (offsets entries : List ℕ) : Type 0 where
   pub close : Close zs
   pub counted : length zs / 3 ≡ n

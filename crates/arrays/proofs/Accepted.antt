@@ -17,8 +17,8 @@ use Rattle.tets.proofs.Labelled.{labelled-of}
 use Rattle.arrays.specs.Refusals.{refusals, refusal}
 
 -- what a file that is not refused tells: its counts are the header's and fill it, every coordinate is in bounds,
--- every label is below n, no tetrahedron names a vertex twice, each box is above 0, and each facet has at most two tetrahedra,
--- their fourth vertices strictly on its two sides
+-- every label is below n, no tetrahedron names a vertex twice, each box is above 0,
+-- and each facet has at most two tetrahedra, their fourth vertices strictly on its two sides
 pub record Given (f : List ℕ) : Type 0 where
   pub framed : Framed f (vertices f) (tets f)
   pub close : Close (coordsOf f)

@@ -99,7 +99,8 @@ pub fn load(
     requires { ⌜ headed (now file) ≡ Accepted n t ⌝ }
     requires { ⌜ (length (now coords) ≡ 3 * n) × ((length (now labels) ≡ 4 * t) × (length (now parts) ≡ t)) ⌝ }
     requires { ⌜ (n < length (now offsets)) × (4 * t ≤ length (now entries)) ⌝ }
-    ensures { λ r. ⌜ Loaded (now (file .entry)) n r (now (coords .exit)) (now (labels .exit)) (now (parts .exit)) (now (offsets .exit)) (now (entries .exit)) ⌝ }
+    ensures { λ r. ⌜ Loaded (now (file .entry)) n r
+        (now (coords .exit)) (now (labels .exit)) (now (parts .exit)) (now (offsets .exit)) (now (entries .exit)) ⌝ }
 {
     decode(file, n, t, coords, labels, parts);
     let fault = misread(coords, labels);

@@ -1,6 +1,8 @@
 -- A loop that counts i up to n and tests f i: what it computes of the list of f at each number below n.
--- `AllUp q f n i` is the invariant of a loop that tests `all q`; it starts at 0, goes on where the test passes, and ends where it fails or i is n.
--- `AnyUp` and `CountUp` are those of `any` and `count`. A table's rows, a mesh's tetrahedra and a list's elements (`listed`) are such lists.
+-- `AllUp q f n i` is the invariant of a loop that tests `all q`;
+-- it starts at 0, goes on where the test passes, and ends where it fails or i is n.
+-- `AnyUp` and `CountUp` are those of `any` and `count`.
+-- A table's rows, a mesh's tetrahedra and a list's elements (`listed`) are such lists.
 -- Assumes nothing.
 use mathlib.Core.Path.{_≡_, refl, sym, _∙_, ap}
 use mathlib.Core.Bool.{Bool, true, false}

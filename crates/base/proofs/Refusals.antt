@@ -1,4 +1,5 @@
--- The first refusal that applies: told by a chain of tests, over lists laid end to end, and what is known where there is none.
+-- The first refusal that applies: told by a chain of tests, over lists laid end to end,
+-- and what is known where there is none.
 -- Assumes nothing.
 use mathlib.Core.Path.{_≡_, refl, sym, _∙_}
 use mathlib.Core.Bool.{Bool, true, false, cond, _&&_}

@@ -1,6 +1,9 @@
--- The size of sums, differences and products of integers, and what a signed local holds after an operation whose result is small.
--- A signed local holds bits, and the machine reads them back: `Holds w b n z` says that the bits b say z, which is at most n in size.
--- `add-holds`, `sub-holds` and `mul-holds` carry that through an operation, and `add-fits`, `sub-fits` and `mul-fits` are what the operation asks.
+-- The size of sums, differences and products of integers, and what a signed local holds after an operation whose result
+-- is small.
+-- A signed local holds bits, and the machine reads them back:
+-- `Holds w b n z` says that the bits b say z, which is at most n in size.
+-- `add-holds`, `sub-holds` and `mul-holds` carry that through an operation, and `add-fits`,
+-- `sub-fits` and `mul-fits` are what the operation asks.
 -- Assumes nothing.
 use mathlib.Core.Path.{_≡_, refl, sym, _∙_}
 use mathlib.Core.Bool.{Bool, true, false, cond, false≢true}

@@ -63,7 +63,8 @@ module _ {row : List ℕ} {lo low high : ℕ} (a : Halved row lo low high) where
 
 -- ── what stands in both rows ──
 
--- what stands in both rows and passes stands from i on in the one and from j on in the other; from i on the entries are from lo on
+-- what stands in both rows and passes stands from i on in the one and from j on in the other;
+-- from i on the entries are from lo on
 pub record Onward (ok : ℕ → Bool) (one two : List ℕ) (lo i j : ℕ) : Type 0 where
   pub first : (p q : ℕ) → p < length one → q < length two → getD one p 0 ≡ getD two q 0 → lo ≤ getD one p 0 → ok (getD one p 0) ≡ true → i ≤ p
   pub second : (p q : ℕ) → p < length one → q < length two → getD one p 0 ≡ getD two q 0 → lo ≤ getD one p 0 → ok (getD one p 0) ≡ true → j ≤ q

@@ -9,6 +9,7 @@ use lib.ListN.{length, getD}
 use Rattle.neighbours.specs.declared.Row.{Row}
 use Rattle.neighbours.specs.Reading.{entriesOf}
 use Rattle.levels.specs.Levels.{lesser}
+use Rattle.candidates.specs.declared.Rows.{Rows}
 
 -- the entries of a row rise
 abbrev pub Rises : List ℕ → Type 0
@@ -34,3 +35,7 @@ pub record Served (table : List ℕ) (r : Row) : Type 0 where
 pub record Met (ok : ℕ → Bool) (one two : List ℕ) (lo r : ℕ) : Type 0 where
   pub low : r < 65536 → lo ≤ r
   pub least : (p q : ℕ) → p < length one → q < length two → getD one p 0 ≡ getD two q 0 → lo ≤ getD one p 0 → ok (getD one p 0) ≡ true → r ≤ getD one p 0
+
+-- the same of two rows of the table
+abbrev pub MetIn : (ℕ → Bool) → List ℕ → Rows → ℕ → ℕ → Type 0
+MetIn ok table rows lo r = Met ok (entriesOf table (rows .one)) (entriesOf table (rows .two)) lo r

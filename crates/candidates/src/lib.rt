@@ -1,4 +1,5 @@
-// The next candidate at a place: the first vertex that stands in the rows of two corners joined to it and with which the tuple passes there.
+// The next candidate at a place: the first vertex that stands in the rows of two corners joined to it and with which
+// the tuple passes there.
 // x is the row of a place in the tables of the levels.
 use levels::Place;
 use levels::also_of;
@@ -17,10 +18,9 @@ ghost use lib.Dec.{eqb};
 ghost use lib.ListN.{length};
 ghost use Rattle.space.specs.Arrays.{Close};
 ghost use Rattle.marks.specs.Marks.{places};
-ghost use Rattle.neighbours.specs.Reading.{entriesOf};
 ghost use Rattle.levels.specs.Levels.{levels};
 ghost use Rattle.levels.specs.Fits.{Placed, fitsWith};
-ghost use Rattle.candidates.specs.Met.{Rises, Entered, Raised, Served, Met};
+ghost use Rattle.candidates.specs.Met.{Rises, Entered, Raised, Served, Met, MetIn};
 
 // A row longer than this is not gone through beside another. That is a matter of speed alone.
 const LONG: usize = 96;
@@ -114,7 +114,7 @@ pub fn meet_rows(
     requires { ⌜ now tables ≡ levels ⌝ }
     requires { ⌜ (Close (now coords) × (length (now marks) ≡ places)) × Placed place ⌝ }
     requires { ⌜ Served (now table) (rows .one) × Served (now table) (rows .two) ⌝ }
-    ensures { λ r. ⌜ Met (fitsWith (now (coords .entry)) (now (marks .entry)) place) (entriesOf (now (table .entry)) (rows .one)) (entriesOf (now (table .entry)) (rows .two)) lo r ⌝ }
+    ensures { λ r. ⌜ MetIn (fitsWith (now (coords .entry)) (now (marks .entry)) place) (now (table .entry)) rows lo r ⌝ }
 {
     let one = rows.one;
     let two = rows.two;
@@ -135,7 +135,8 @@ pub fn meet_rows(
 
 // ---- which rows, and from where on
 
-// The row of the first joined corner, or, where three corners are joined to the place, the one of the first two with fewer neighbours.
+// The row of the first joined corner, or, where three corners are joined to the place,
+// the one of the first two with fewer neighbours.
 pub fn nearer(tables: &[u8], x: usize, r: Row, q: Row) -> Row
     requires { ⌜ now tables ≡ levels ⌝ }
     requires { ⌜ x < 19 ⌝ }

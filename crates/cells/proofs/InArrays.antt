@@ -1,4 +1,5 @@
--- A mesh in arrays: each condition of it, with any template, by the arrays that the condition looks at. Assumes nothing.
+-- A mesh in arrays: each condition of it, with any template, by the arrays that the condition looks at.
+-- Assumes nothing.
 use mathlib.Core.Path.{_≡_, refl, _∙_, ap, fun-ext}
 use mathlib.Core.Bool.{Bool, cond}
 use mathlib.Core.List.{List, _∷_, map}

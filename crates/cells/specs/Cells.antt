@@ -1,5 +1,6 @@
 -- When a tuple is a cell: conditions 1 to 6. A tuple is the list of its corners' vertices, in letter order.
--- Each condition stands first over what it looks at, rows of corners, points, tetrahedra or counts, and then of a mesh and a template.
+-- Each condition stands first over what it looks at, rows of corners, points, tetrahedra or counts,
+-- and then of a mesh and a template.
 -- Assumes nothing.
 use Prim.Native.Nat.{ℕ, suc}
 use mathlib.Core.Bool.{Bool, not, cond, _&&_, _||_}
@@ -37,7 +38,8 @@ one k = eqb k 1
 unfoldable pub noneOrTwo : ℕ → Bool
 noneOrTwo k = eqb k 0 || eqb k 2
 
--- the triangles of one diagonal, with the counts a and b, are on the boundary, and those of the other, with d and e, are not
+-- the triangles of one diagonal, with the counts a and b, are on the boundary, and those of the other, with d and e,
+-- are not
 unfoldable pub isDiagonal : ℕ → ℕ → ℕ → ℕ → Bool
 isDiagonal a b d e = all one (a ∷ b ∷ []) && all noneOrTwo (d ∷ e ∷ [])
 

@@ -1,5 +1,6 @@
-// When a tuple of corners is a cell of a mesh: conditions 1 to 4. A tuple is the vertices of its corners, in letter order; the template is
-// lent as flat tables of corners (a to h are 0 to 7).
+// When a tuple of corners is a cell of a mesh: conditions 1 to 4.
+// A tuple is the vertices of its corners, in letter order;
+// the template is lent as flat tables of corners (a to h are 0 to 7).
 ghost use mathlib.Core.Path.{_≡_};
 ghost use Prim.Native.Nat.{_/_, _<_};
 ghost use lib.Dec.{ltb};
@@ -10,8 +11,8 @@ ghost use Rattle.space.specs.Arrays.{row4, Close};
 ghost use Rattle.around.specs.Index.{Indexed, togetherIn};
 ghost use Rattle.templates.specs.Tables.{at};
 ghost use Rattle.templates.specs.Flat.{pairAt, pairs};
-ghost use Rattle.cells.specs.Cells.{areCorners, allJoined, splits, allFaces, boxOf, boxesAbove};
-ghost use Rattle.cells.specs.Rows.{row3, threes, fours, pointsOf, facetIn};
+ghost use Rattle.cells.specs.Cells.{areCorners, allJoined, splits, allFaces, boxOf};
+ghost use Rattle.cells.specs.Rows.{row3, threes, fours, pointsOf, soundBy, facetIn};
 use around::together2;
 use around::together3;
 use space::Vertex;
@@ -262,7 +263,7 @@ fn sound_at(coords: &[i64], c: &[u16], rows: &[u8], i: usize) -> bool
 // 4: the box at every corner triple is above 0.
 pub fn is_sound(coords: &[i64], c: &[u16], triples: &[u8]) -> bool
     requires { ⌜ Close (now coords) ⌝ }
-    ensures { λ r. ⌜ r ≡ boxesAbove (boxOf (pointsOf (now (coords .entry)))) (now (c .entry)) (fours (now (triples .entry))) ⌝ }
+    ensures { λ r. ⌜ r ≡ soundBy (now (coords .entry)) (now (c .entry)) (fours (now (triples .entry))) ⌝ }
 {
     let k = triples.len() / 4;
     let mut i = 0;

@@ -1,12 +1,13 @@
 // Lists the cells of the mesh on standard input, or a portion of them from a mark on.
 //
-// With no argument: a line `mesh` with the counts, a line for each cell, and `end` with their number. With ten, which are
-// a mark (a kind and eight numbers) and how many cells there is room for: the cells after the mark, at most that many, and
-// then `end` with how many those were, where none remain, or `mark` with the mark to go on from. A refusal is `refused`
-// with its number.
+// With no argument: a line `mesh` with the counts, a line for each cell, and `end` with their number.
+// With ten, which are a mark (a kind and eight numbers) and how many cells there is room for:
+// the cells after the mark, at most that many, and then `end` with how many those were, where none remain,
+// or `mark` with the mark to go on from. A refusal is `refused` with its number.
 //
-// What is listed is the promise of `listing::portion`, and what a line says that of `lines`; here stand only the reading
-// and the writing. A write that fails ends the program at once, so that no last line follows a cell that was lost.
+// What is listed is the promise of `listing::portion`, and what a line says that of `lines`;
+// here stand only the reading and the writing. A write that fails ends the program at once,
+// so that no last line follows a cell that was lost.
 use arrays::Checked;
 use libc::STDERR_FILENO;
 use libc::STDIN_FILENO;
@@ -75,7 +76,8 @@ fn show_mark(out: &mut [u8], m: Mark) -> bool
     show_numbers(out, b"mark", &numbers)
 }
 
-// Writes the text where it has no room for a line more, and answers where the next goes; past the text where that failed.
+// Writes the text where it has no room for a line more, and answers where the next goes;
+// past the text where that failed.
 fn flushed(out: &[u8], at: usize) -> usize
     requires { ⌜ (length (now out) ≡ 65536) × (at ≤ 65536) ⌝ }
 {

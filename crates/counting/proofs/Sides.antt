@@ -1,4 +1,5 @@
--- Which corners the tetrahedra have, noted once as marks: what is counted by the marks is what is counted by the labels. Assumes nothing.
+-- Which corners the tetrahedra have, noted once as marks:
+-- what is counted by the marks is what is counted by the labels. Assumes nothing.
 use mathlib.Core.Path.{_≡_, refl, sym, _∙_, ap, ap₂}
 use mathlib.Core.Bool.{Bool, true, false, cond, _&&_, _||_}
 use mathlib.Core.List.{List, [], _∷_, map}

@@ -8,8 +8,8 @@ ghost use lib.ListN.{length, getD};
 ghost use Rattle.base.specs.Lists.{all};
 ghost use Rattle.space.specs.Arrays.{row4};
 ghost use Rattle.around.specs.Build.{Within};
-ghost use Rattle.cells.specs.Cells.{noneOrTwo, isDiagonal, sidesOf, once, paired, covers, fills, allAgree};
-ghost use Rattle.cells.specs.Rows.{row3, threes, fours};
+ghost use Rattle.cells.specs.Cells.{noneOrTwo, isDiagonal, once, paired, covers, allAgree};
+ghost use Rattle.cells.specs.Rows.{row3, threes, fours, fillsBy, fillsWith};
 ghost use Rattle.counting.specs.Noted.{markOf, Noted, Marks, low, Lettered, sidesBy};
 use space::Tet;
 use templates::corner;
@@ -30,7 +30,8 @@ fn mark(labels: &[u16], e: Tet, c: &[u16], j: u8) -> u8
     (w | (x | (y | z))) as u8
 }
 
-// Writes which corners of the cell each of the tetrahedra listed has, 8 entries to each: they are compared once, and then counted by these.
+// Writes which corners of the cell each of the tetrahedra listed has, 8 entries to each:
+// they are compared once, and then counted by these.
 fn note(labels: &[u16], list: &[u16], c: &[u16], has: &mut [u8])
     requires { ⌜ Within (length (now labels) / 4) (now list) × (length (now has) ≡ 8 * length (now list)) ⌝ }
     ensures { λ _. ⌜ Noted (now (labels .entry)) (now (list .entry)) (now (c .entry)) (now (has .exit)) ⌝ }
@@ -44,7 +45,8 @@ fn note(labels: &[u16], list: &[u16], c: &[u16], has: &mut [u8])
     }
 }
 
-// Of how many of the tetrahedra three corners are a facet. The product is 1 where all three are marked; a branch would cost more.
+// Of how many of the tetrahedra three corners are a facet.
+// The product is 1 where all three are marked; a branch would cost more.
 fn sides_of(has: &[u8], x: u8, y: u8, z: u8) -> usize
     requires { ⌜ Marks (now has) × ((x < 8) × ((y < 8) × (z < 8))) ⌝ }
     ensures { λ r. ⌜ r ≡ sidesBy (now (has .entry)) (x ∷ y ∷ z ∷ []) ⌝ }
@@ -167,7 +169,7 @@ fn all_covered(has: &[u8], quads: &[u8]) -> bool
 // 5, where the corners that the tetrahedra have are noted.
 fn is_filled_by(has: &[u8], triangles: &[u8], quads: &[u8], within: &[u8]) -> bool
     requires { ⌜ Marks (now has) × Lettered (now triangles) (now quads) (now within) ⌝ }
-    ensures { λ r. ⌜ r ≡ fills (sidesBy (now (has .entry))) (threes (now (triangles .entry))) (fours (now (quads .entry))) (threes (now (within .entry))) ⌝ }
+    ensures { λ r. ⌜ r ≡ fillsBy (sidesBy (now (has .entry))) (now (triangles .entry)) (now (quads .entry)) (now (within .entry)) ⌝ }
 {
     if !all_once(has, triangles) {
         return false;
@@ -178,7 +180,8 @@ fn is_filled_by(has: &[u8], triangles: &[u8], quads: &[u8], within: &[u8]) -> bo
     all_paired(has, within)
 }
 
-// 5: the tetrahedra listed fill the cell; `within` are the triples on no face, and `has` is room for 8 entries a tetrahedron.
+// 5: the tetrahedra listed fill the cell; `within` are the triples on no face,
+// and `has` is room for 8 entries a tetrahedron.
 pub fn is_filled(
     labels: &[u16],
     list: &[u16],
@@ -188,8 +191,10 @@ pub fn is_filled(
     within: &[u8],
     has: &mut [u8],
 ) -> bool
-    requires { ⌜ Within (length (now labels) / 4) (now list) × ((length (now has) ≡ 8 * length (now list)) × Lettered (now triangles) (now quads) (now within)) ⌝ }
-    ensures { λ r. ⌜ r ≡ fills (sidesOf (row4 (now (labels .entry))) (now (list .entry)) (now (c .entry))) (threes (now (triangles .entry))) (fours (now (quads .entry))) (threes (now (within .entry))) ⌝ }
+    requires { ⌜ Within (length (now labels) / 4) (now list)
+        × ((length (now has) ≡ 8 * length (now list)) × Lettered (now triangles) (now quads) (now within)) ⌝ }
+    ensures { λ r. ⌜ r ≡ fillsWith (now (labels .entry)) (now (list .entry)) (now (c .entry))
+        (now (triangles .entry)) (now (quads .entry)) (now (within .entry)) ⌝ }
 {
     note(labels, list, c, has);
     is_filled_by(has, triangles, quads, within)

@@ -8,6 +8,8 @@ use lib.ListN.{length, getD}
 use Rattle.base.specs.Lists.{all, isIn}
 use Rattle.space.specs.Arrays.{row4, around}
 use Rattle.filling.specs.declared.Crowd.{Crowd}
+use Rattle.filling.specs.declared.Seen.{Seen}
+use Rattle.filling.specs.declared.Span.{Span}
 
 -- no number of the row is below one before it
 pub record Rising (row : List ℕ) : Type 0 where
@@ -23,6 +25,10 @@ pub record Least (b : ℕ → Bool) (lo hi : ℕ) (row : List ℕ) (k r : ℕ) :
 pub record Passed (b : ℕ → Bool) (lo : ℕ) (row : List ℕ) (p : ℕ) : Type 0 where
   pub low : p ≤ length row
   pub none : (i : ℕ) → i < p → lo ≤ getD row i 0 → b (getD row i 0) ≡ false
+
+-- what is seen in a row: the least of its numbers, and the place that the row is read up to
+abbrev pub Saw : (ℕ → Bool) → Span → List ℕ → Seen → Type 0
+Saw b s row r = Least b (s .lo) (s .hi) row (length row) (r .least) × Passed b (s .lo) row (r .at)
 
 -- the least among the tetrahedra around the first k vertices of c, but for those left out
 pub record Next (b : ℕ → Bool) (ls c : List ℕ) (lo hi k : ℕ) (out : List ℕ) (r : ℕ) : Type 0 where

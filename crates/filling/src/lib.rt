@@ -6,10 +6,10 @@ ghost use Rattle.base.specs.Lists.{isIn};
 ghost use Rattle.space.specs.Arrays.{around};
 ghost use Rattle.around.specs.Index.{Indexed};
 ghost use Rattle.around.specs.Build.{Within};
-ghost use Rattle.cells.specs.Rows.{fours, owns, ownNumbers};
+ghost use Rattle.cells.specs.Rows.{fours, owns, ownsBy, ownNumbersBy};
 ghost use Rattle.filling.specs.Found.{Found, pushed};
 ghost use Rattle.own.specs.Stamps.{Stamped};
-ghost use Rattle.filling.specs.Next.{Rising, Least, Passed, leftOut, Aside, NextOf, Reached};
+ghost use Rattle.filling.specs.Next.{Rising, Passed, Saw, leftOut, Aside, NextOf, Reached};
 use around::row_of;
 use cells::corners4;
 use own::is_hit;
@@ -41,8 +41,8 @@ fn push(f: Tets, e: Tet) -> Tets
     Tets { count: k + 1, list }
 }
 
-// What was seen in a row: the least, and the place that the row is read up to. No tetrahedron before that place is asked
-// for again.
+// What was seen in a row: the least, and the place that the row is read up to.
+// No tetrahedron before that place is asked for again.
 struct Seen {
     least: usize,
     at: usize,
@@ -59,8 +59,8 @@ struct Span {
 // so the first is it.
 fn least_in(labels: &[u16], row: &[u16], s: Span, m: &[u8; 512], c: &[u16], quads: &[u8]) -> Seen
     requires { ⌜ Within (length (now labels) / 4) (now row) × Rising (now row) ⌝ }
-    requires { ⌜ Stamped (now c) (length (now c)) (now m) × Passed (owns (now labels) (fours (now quads)) (now c)) (s .lo) (now row) (s .from) ⌝ }
-    ensures { λ r. ⌜ Least (owns (now (labels .entry)) (fours (now (quads .entry))) (now (c .entry))) (s .lo) (s .hi) (now (row .entry)) (length (now (row .entry))) (r .least) × Passed (owns (now (labels .entry)) (fours (now (quads .entry))) (now (c .entry))) (s .lo) (now (row .entry)) (r .at) ⌝ }
+    requires { ⌜ Stamped (now c) (length (now c)) (now m) × Passed (ownsBy (now labels) (now quads) (now c)) (s .lo) (now row) (s .from) ⌝ }
+    ensures { λ r. ⌜ Saw (ownsBy (now (labels .entry)) (now (quads .entry)) (now (c .entry))) s (now (row .entry)) r ⌝ }
 {
     let mut at = s.from;
     while at < row.len() {
@@ -221,8 +221,10 @@ fn next(
     quads: &[u8],
 ) -> usize
     requires { ⌜ Indexed (now labels) n (now offsets) (now entries) × Stamped (now c) (length (now c)) (now m) ⌝ }
-    requires { ⌜ Aside (owns (now labels) (fours (now quads)) (now c)) (now labels) (leftOut w) × Reached (owns (now labels) (fours (now quads)) (now c)) (now labels) (now c) lo (now places) ⌝ }
-    ensures { λ r. ⌜ NextOf (owns (now (labels .entry)) (fours (now (quads .entry))) (now (c .entry))) lo (length (now (labels .entry)) / 4) r × Reached (owns (now (labels .entry)) (fours (now (quads .entry))) (now (c .entry))) (now (labels .entry)) (now (c .entry)) lo (now (places .exit)) ⌝ }
+    requires { ⌜ Aside (ownsBy (now labels) (now quads) (now c)) (now labels) (leftOut w)
+        × Reached (ownsBy (now labels) (now quads) (now c)) (now labels) (now c) lo (now places) ⌝ }
+    ensures { λ r. ⌜ NextOf (ownsBy (now (labels .entry)) (now (quads .entry)) (now (c .entry))) lo (length (now (labels .entry)) / 4) r
+        × Reached (ownsBy (now (labels .entry)) (now (quads .entry)) (now (c .entry))) (now (labels .entry)) (now (c .entry)) lo (now (places .exit)) ⌝ }
 {
     let mut hi = labels.len() / 4;
     let mut k = 0;
@@ -252,7 +254,7 @@ pub fn find(
     quads: &[u8],
 ) -> Tets
     requires { ⌜ Indexed (now labels) n (now offsets) (now entries) ⌝ }
-    ensures { λ r. ⌜ Found (ownNumbers (now (labels .entry)) (fours (now (quads .entry))) (now (c .entry))) r ⌝ }
+    ensures { λ r. ⌜ Found (ownNumbersBy (now (labels .entry)) (now (quads .entry)) (now (c .entry))) r ⌝ }
 {
     let t = labels.len() / 4;
     let w = crowd_of(labels, n, offsets, entries, c, quads);

@@ -15,7 +15,8 @@ use Rattle.portions.specs.Tuples.{Agree}
 use Rattle.portions.specs.Steps.{Next}
 use Rattle.rule.specs.Rule.{tetRule, cellAt, Searched}
 
--- where the search of one kind begins for the mark of kind a with the numbers vs: in its own kind at these in search order, in a kind below at zeros
+-- where the search of one kind begins for the mark of kind a with the numbers vs:
+-- in its own kind at these in search order, in a kind below at zeros
 pub record Begun (t : Template) (a : ℕ) (vs r : List ℕ) : Type 0 where
   pub own : a ≡ t .kind → Agree (t .corners) r (at vs (t .order))
   pub below : t .kind < a → r ≡ replicate 8 0
@@ -35,7 +36,8 @@ kinds = 8 ∷ 6 ∷ 5 ∷ []
 abbrev pub NoneIn : Mesh → List ℕ → ℕ → Type 0
 NoneIn m k i = (j : ℕ) → j < i → (r : List ℕ) × Searched m (templateOf (getD kinds j 0)) (getD k 0 0) (drop 1 k) false r
 
--- the first cell after the mark k is the one with the mark j, and f has its tetrahedra; there is none where `found` is false
+-- the first cell after the mark k is the one with the mark j, and f has its tetrahedra;
+-- there is none where `found` is false
 pub record Came (m : Mesh) (k : List ℕ) (found : Bool) (j : List ℕ) (f : Tets) : Type 0 where
   pub cell : Cell
   pub next : Next tetRule (fullList m) k found cell

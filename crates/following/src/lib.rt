@@ -94,9 +94,10 @@ fn next_of(
     told: bool,
 ) -> Step
     requires { ⌜ now tables ≡ levels ⌝ }
-    requires { ⌜ Ready (now coords) (now labels) n (now offsets) (now entries) (now marks) (now table) × (length (now parts) ≡ length (now labels) / 4) ⌝ }
+    requires { ⌜ Ready (now coords) (now labels) (now parts) n (now offsets) (now entries) (now marks) (now table) ⌝ }
     requires { ⌜ templateOf kind .kind ≡ kind ⌝ }
-    ensures { λ r. ⌜ Stepped (meshOf (now (coords .entry)) (now (labels .entry)) (now (parts .entry))) (templateOf kind) (markOf mark) (r .found) (markOf (r .mark)) (r .tets) ⌝ }
+    ensures { λ r. ⌜ Stepped (meshOf (now (coords .entry)) (now (labels .entry)) (now (parts .entry))) (templateOf kind)
+        (markOf mark) (r .found) (markOf (r .mark)) (r .tets) ⌝ }
 {
     if mark.kind < kind {
         return none();
@@ -154,8 +155,9 @@ pub fn next_cell(
     told: bool,
 ) -> Step
     requires { ⌜ now tables ≡ levels ⌝ }
-    requires { ⌜ Ready (now coords) (now labels) n (now offsets) (now entries) (now marks) (now table) × (length (now parts) ≡ length (now labels) / 4) ⌝ }
-    ensures { λ r. ⌜ Came (meshOf (now (coords .entry)) (now (labels .entry)) (now (parts .entry))) (markOf mark) (r .found) (markOf (r .mark)) (r .tets) ⌝ }
+    requires { ⌜ Ready (now coords) (now labels) (now parts) n (now offsets) (now entries) (now marks) (now table) ⌝ }
+    ensures { λ r. ⌜ Came (meshOf (now (coords .entry)) (now (labels .entry)) (now (parts .entry)))
+        (markOf mark) (r .found) (markOf (r .mark)) (r .tets) ⌝ }
 {
     let mut i = 0;
     while i < 3 {
@@ -208,7 +210,7 @@ pub fn is_any_left(
     mark: Mark,
 ) -> bool
     requires { ⌜ now tables ≡ levels ⌝ }
-    requires { ⌜ Ready (now coords) (now labels) n (now offsets) (now entries) (now marks) (now table) × (length (now parts) ≡ length (now labels) / 4) ⌝ }
+    requires { ⌜ Ready (now coords) (now labels) (now parts) n (now offsets) (now entries) (now marks) (now table) ⌝ }
     ensures { λ r. ⌜ r ≡ remains tetRule (fullList (meshOf (now (coords .entry)) (now (labels .entry)) (now (parts .entry)))) (markOf mark) ⌝ }
 {
     let lo = first_after(mark);

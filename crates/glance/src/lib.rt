@@ -1,5 +1,7 @@
-// Whether cells remain, at a glance: a pyramid of the last or the first tetrahedron and one beside it tells it without a search. Which are tried is a
-// matter of speed alone: at one end of the file the vertices mostly have great numbers, and so the pyramids come late in the list.
+// Whether cells remain, at a glance:
+// a pyramid of the last or the first tetrahedron and one beside it tells it without a search.
+// Which are tried is a matter of speed alone:
+// at one end of the file the vertices mostly have great numbers, and so the pyramids come late in the list.
 mod guess;
 
 use around::rarest;
@@ -129,7 +131,8 @@ fn is_at(
     )
 }
 
-// Whether a pyramid of the list from the first corner lo on is seen at once. Where this is false, there may be one all the same.
+// Whether a pyramid of the list from the first corner lo on is seen at once.
+// Where this is false, there may be one all the same.
 pub fn sees(
     coords: &[i64],
     labels: &[u16],

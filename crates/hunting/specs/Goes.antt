@@ -15,11 +15,13 @@ use Rattle.levels.specs.Levels.{look}
 use Rattle.levels.specs.Fits.{fitsWith}
 use Rattle.aims.specs.Aims.{edge, LinksFirst, Aims}
 
--- what the corners but the first are not below: the kinds 8 and 6 have the rows before 14, and their first corner is the least
+-- what the corners but the first are not below: the kinds 8 and 6 have the rows before 14,
+-- and their first corner is the least
 abbrev pub floorOf : List ℕ → ℕ → ℕ
 floorOf t x = cond (ltb x 14) (getD t 0 0 + 1) 0
 
--- the edge at the entries i and i + 1 of row x in the tuple t: the linking vertex is neither o nor p, nor the one at entry i + 2
+-- the edge at the entries i and i + 1 of row x in the tuple t:
+-- the linking vertex is neither o nor p, nor the one at entry i + 2
 abbrev pub edgeAt : List ℕ → ℕ → ℕ → ℕ → ℕ → Edge
 edgeAt t x i o p = edge (getD t (look x i) 0) (getD t (look x (i + 1)) 0) (floorOf t x) o p (getD t (look x (i + 2)) 0)
 

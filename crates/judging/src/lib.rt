@@ -9,7 +9,7 @@ ghost use mathlib.Core.Path.{_≡_};
 ghost use Prim.Native.Nat.{_*_, _/_, _≤_};
 ghost use lib.ListN.{length};
 ghost use Rattle.around.specs.Build.{Within};
-ghost use Rattle.cells.specs.Rows.{fours, ownNumbers};
+ghost use Rattle.cells.specs.Rows.{ownNumbersBy};
 ghost use Rattle.record.specs.Entries.{tetPlaces};
 ghost use Rattle.filling.specs.Found.{Found};
 ghost use Rattle.counting.specs.Noted.{Lettered};
@@ -28,7 +28,8 @@ fn judge_list(
 ) -> u8
     requires { ⌜ Within (length (now labels) / 4) (now list) × Within (length (now parts)) (now list) ⌝ }
     requires { ⌜ (length (now has) ≡ 8 * length (now list)) × Lettered (now triangles) (now quads) (now within) ⌝ }
-    ensures { λ r. ⌜ r ≡ lastWith (now (labels .entry)) (now (parts .entry)) (now (list .entry)) (now (c .entry)) (now (triangles .entry)) (now (quads .entry)) (now (within .entry)) ⌝ }
+    ensures { λ r. ⌜ r ≡ lastWith (now (labels .entry)) (now (parts .entry)) (now (list .entry)) (now (c .entry))
+        (now (triangles .entry)) (now (quads .entry)) (now (within .entry)) ⌝ }
 {
     if !is_filled(labels, list, c, triangles, quads, within, has) {
         return 5;
@@ -50,7 +51,8 @@ fn judge_many(
 ) -> u8
     requires { ⌜ (length (now labels) / 4 ≤ 2048) × (length (now parts) ≡ length (now labels) / 4) ⌝ }
     requires { ⌜ Lettered (now triangles) (now quads) (now within) ⌝ }
-    ensures { λ r. ⌜ r ≡ lastFailing (now (labels .entry)) (now (parts .entry)) (now (c .entry)) (now (triangles .entry)) (now (quads .entry)) (now (within .entry)) ⌝ }
+    ensures { λ r. ⌜ r ≡ lastFailing (now (labels .entry)) (now (parts .entry)) (now (c .entry))
+        (now (triangles .entry)) (now (quads .entry)) (now (within .entry)) ⌝ }
 {
     let t = labels.len() / 4;
     let mut list = [65535u16; 2048];
@@ -86,9 +88,11 @@ fn judge_few(
     quads: &[u8],
     within: &[u8],
 ) -> u8
-    requires { ⌜ Found (ownNumbers (now labels) (fours (now quads)) (now c)) found × ((found .count ≤ tetPlaces) × (length (now parts) ≡ length (now labels) / 4)) ⌝ }
+    requires { ⌜ Found (ownNumbersBy (now labels) (now quads) (now c)) found
+        × ((found .count ≤ tetPlaces) × (length (now parts) ≡ length (now labels) / 4)) ⌝ }
     requires { ⌜ Lettered (now triangles) (now quads) (now within) ⌝ }
-    ensures { λ r. ⌜ r ≡ lastFailing (now (labels .entry)) (now (parts .entry)) (now (c .entry)) (now (triangles .entry)) (now (quads .entry)) (now (within .entry)) ⌝ }
+    ensures { λ r. ⌜ r ≡ lastFailing (now (labels .entry)) (now (parts .entry)) (now (c .entry))
+        (now (triangles .entry)) (now (quads .entry)) (now (within .entry)) ⌝ }
 {
     let k = found.count;
     let list = found.list;
@@ -115,10 +119,11 @@ pub fn judge_found(
     quads: &[u8],
     within: &[u8],
 ) -> u8
-    requires { ⌜ Found (ownNumbers (now labels) (fours (now quads)) (now c)) found ⌝ }
+    requires { ⌜ Found (ownNumbersBy (now labels) (now quads) (now c)) found ⌝ }
     requires { ⌜ (length (now labels) / 4 ≤ 2048) × (length (now parts) ≡ length (now labels) / 4) ⌝ }
     requires { ⌜ Lettered (now triangles) (now quads) (now within) ⌝ }
-    ensures { λ r. ⌜ r ≡ lastFailing (now (labels .entry)) (now (parts .entry)) (now (c .entry)) (now (triangles .entry)) (now (quads .entry)) (now (within .entry)) ⌝ }
+    ensures { λ r. ⌜ r ≡ lastFailing (now (labels .entry)) (now (parts .entry)) (now (c .entry))
+        (now (triangles .entry)) (now (quads .entry)) (now (within .entry)) ⌝ }
 {
     if found.count <= TET_PLACES {
         judge_few(labels, parts, found, c, triangles, quads, within)

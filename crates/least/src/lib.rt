@@ -7,8 +7,8 @@ pub use tables::PYRAMID_LESS;
 use templates::corner;
 ghost use mathlib.Core.Path.{_≡_};
 ghost use Prim.Native.Nat.{_/_, _≤_, _<_};
-ghost use lib.ListN.{length, take};
-ghost use Rattle.templates.specs.Tables.{templateOf, at};
+ghost use lib.ListN.{length};
+ghost use Rattle.templates.specs.Tables.{templateOf, tupleOf, at};
 ghost use Rattle.templates.specs.Flat.{pairAt, pairs};
 ghost use Rattle.least.specs.Least.{rises, risesAt, isLeast};
 
@@ -39,7 +39,7 @@ pub fn all_rise(c: &[u16], less: &[u8]) -> bool
 // The first of eight numbers, as many as the kind has corners, are a tuple in least form.
 pub fn is_least(kind: u16, corners: &[u16]) -> bool
     requires { ⌜ 8 ≤ length (now corners) ⌝ }
-    ensures { λ r. ⌜ r ≡ isLeast (templateOf kind) (take (templateOf kind .corners) (now (corners .entry))) ⌝ }
+    ensures { λ r. ⌜ r ≡ isLeast (templateOf kind) (tupleOf kind (now (corners .entry))) ⌝ }
 {
     if kind == 8 {
         return all_rise(&corners[..8], &HEX_LESS);

@@ -15,7 +15,8 @@ use Rattle.templates.specs.Tables.{Template, hexahedron, prism, pyramid, templa
 use Rattle.cells.specs.Cells.{first, second}
 use Rattle.levels.specs.Levels.{base, lesser, look}
 
--- sets of triangles one of which is facets: of each quadrilateral those of a diagonal, and all of the triangles together
+-- sets of triangles one of which is facets: of each quadrilateral those of a diagonal,
+-- and all of the triangles together
 unfoldable pub ways : Template → List (List (List (List ℕ)))
 ways t = map (λ q. first q ∷ second q ∷ []) (t .quads) ++ ((t .triangles ∷ []) ∷ [])
 
@@ -23,7 +24,8 @@ ways t = map (λ q. first q ∷ second q ∷ []) (t .quads) ++ ((t .triangles �
 unfoldable pub covered : Template → List ℕ → List (List ℕ) → Bool
 covered t ks fs = any (λ f. all (λ k. ltb k (length (t .places))) f && all (λ k. isIn k (at (t .places) f)) ks) fs
 
--- these triangles, where they are facets, let v follow u and w by the corner at one of the places ys, which is none of the first place, u, w and q
+-- these triangles, where they are facets, let v follow u and w by the corner at one of the places ys,
+-- which is none of the first place, u, w and q
 unfoldable pub linked : Template → List ℕ → ℕ → ℕ → ℕ → ℕ → List (List ℕ) → Bool
 linked t ys u w q v fs =
     any (λ y. ((ltb y (t .corners) && ltb 0 y) && (not (eqb y u) && (not (eqb y w) && not (eqb y q)))) && (covered t (u ∷ w ∷ y ∷ []) fs && covered t (u ∷ y ∷ v ∷ []) fs)) ys

@@ -1,4 +1,5 @@
--- The tables of the levels are right: one computed test over the places of the three kinds, and what it says of one level.
+-- The tables of the levels are right: one computed test over the places of the three kinds,
+-- and what it says of one level.
 -- Assumes nothing.
 use Prim.Native.Nat.{ℕ, zero, suc, _+_, _<_, _≤_}
 use mathlib.Core.Path.{_≡_, refl, sym, _∙_, ap, ap₂}

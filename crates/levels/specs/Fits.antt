@@ -7,8 +7,7 @@ use lib.Dec.{ltb}
 use lib.IntN.{ℤ}
 use lib.ListN.{getD, set}
 use Rattle.base.specs.Lists.{all, upTo, isIn}
-use Rattle.cells.specs.Cells.{boxOf, boxesAbove}
-use Rattle.cells.specs.Rows.{pointsOf}
+use Rattle.cells.specs.Rows.{soundBy}
 use Rattle.marks.specs.Marks.{facesNoted}
 use Rattle.portions.specs.Tuples.{front}
 use Rattle.levels.specs.declared.Place.{Place}
@@ -18,10 +17,11 @@ use Rattle.levels.specs.Levels.{lesser, levelTriangles, levelQuads, leve
 unfoldable pub comesAfter : ℕ → ℕ → List ℕ → Bool
 comesAfter x d s = not (isIn (getD s d 0) (front d s)) && all (λ k. ltb (getD s k 0) (getD s d 0)) (upTo (getD lesser x 0))
 
--- and of the faces and the corner triples that it completes each passes its test, the faces by their marks; x is the row of the level's tables
+-- and of the faces and the corner triples that it completes each passes its test, the faces by their marks;
+-- x is the row of the level's tables
 unfoldable pub fits : List ℤ → List ℕ → ℕ → ℕ → List ℕ → Bool
 fits zs ms x d s =
-    comesAfter x d s && facesNoted ms s (levelTriangles x) (levelQuads x) && boxesAbove (boxOf (pointsOf zs)) s (levelTriples x)
+    comesAfter x d s && facesNoted ms s (levelTriangles x) (levelQuads x) && soundBy zs s (levelTriples x)
 
 -- the tables have the row, and tuples the place
 pub record Placed (p : Place) : Type 0 where

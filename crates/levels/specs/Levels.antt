@@ -1,4 +1,5 @@
--- The levels of the search: at each place of each kind, the faces and the corner triples whose last corner it is, by places in search order.
+-- The levels of the search: at each place of each kind, the faces and the corner triples whose last corner it is,
+-- by places in search order.
 -- A row of these tables is a place of a kind: kind 8 has the first eight, kind 6 the next six, kind 5 the last five.
 -- Assumes nothing.
 use Prim.Native.Nat.{ℕ, _+_, _-_, _*_, _≤_, _<_}
@@ -51,8 +52,10 @@ also = 0 ∷ 0 ∷ 0 ∷ 0 ∷ 2 ∷ 3 ∷ 3 ∷ 5 ∷ 0 ∷ 0 ∷ 1 ∷ 0 ∷ 3
 abbrev pub third : List ℕ
 third = 0 ∷ 0 ∷ 0 ∷ 0 ∷ 2 ∷ 3 ∷ 3 ∷ 6 ∷ 0 ∷ 0 ∷ 1 ∷ 0 ∷ 3 ∷ 4 ∷ 0 ∷ 0 ∷ 1 ∷ 2 ∷ 2 ∷ []
 
--- for each row of the levels' tables two times three places u, w and q, where the new corner, u and w are corners of a face or of two that
--- meet, u is between, and what links the new corner and w at u is not the corner at q; a row whose first two places are equal has no look-ahead
+-- for each row of the levels' tables two times three places u, w and q,
+-- where the new corner, u and w are corners of a face or of two that meet, u is between,
+-- and what links the new corner and w at u is not the corner at q;
+-- a row whose first two places are equal has no look-ahead
 abbrev pub ahead : List ℕ
 ahead =
     0 ∷ 0 ∷ 0 ∷ 0 ∷ 0 ∷ 0 ∷ 0 ∷ 0 ∷ 0 ∷ 0 ∷ 0 ∷ 0 ∷ 0 ∷ 1 ∷ 1 ∷ 0 ∷ 1 ∷ 1 ∷ 0 ∷ 2 ∷ 1 ∷ 0 ∷ 1 ∷ 2 ∷ 0 ∷ 0 ∷ 0 ∷ 0 ∷ 0 ∷ 0 ∷ 0 ∷ 0 ∷ 0 ∷ 0 ∷ 0 ∷ 0 ∷ 0 ∷ 0 ∷ 0 ∷ 0 ∷ 0 ∷ 0 ∷ 0 ∷ 0 ∷ 0 ∷ 0 ∷ 0 ∷ 0 ∷

@@ -1,5 +1,7 @@
-// The levels of the search: at each place of each kind, what a tuple must pass there for a cell to go on, as rows of constant tables.
-// A tuple is kept in search order; x is the row of a place, and the tables are lent as one slice, since each mention of a constant table makes it anew.
+// The levels of the search: at each place of each kind, what a tuple must pass there for a cell to go on,
+// as rows of constant tables.
+// A tuple is kept in search order; x is the row of a place, and the tables are lent as one slice,
+// since each mention of a constant table makes it anew.
 mod rows;
 
 use cells::is_sound;
@@ -13,8 +15,7 @@ ghost use lib.Dec.{ltb};
 ghost use lib.ListN.{length, getD};
 ghost use Rattle.base.specs.Lists.{all, upTo};
 ghost use Rattle.space.specs.Arrays.{Close};
-ghost use Rattle.cells.specs.Cells.{boxOf, boxesAbove};
-ghost use Rattle.cells.specs.Rows.{threes, fours, pointsOf};
+ghost use Rattle.cells.specs.Rows.{threes, fours, soundBy};
 ghost use Rattle.marks.specs.Marks.{places, facesNoted};
 ghost use Rattle.levels.specs.Levels.{lesser, joined, also, third, look, part, levelTriangles, levelQuads, levelTriples, levels, Cut};
 ghost use Rattle.levels.specs.Fits.{comesAfter, fits, Placed, fitsWith};
@@ -139,7 +140,7 @@ fn comes_after(tables: &[u8], s: &[u16], x: usize, d: usize) -> bool
 // The boxes of a part of the corner triples are above 0.
 fn sound_part(coords: &[i64], s: &[u16], rows: &[u8], starts: &[u8], x: usize) -> bool
     requires { ⌜ Close (now coords) × Cut (now rows) (now starts) x ⌝ }
-    ensures { λ r. ⌜ r ≡ boxesAbove (boxOf (pointsOf (now (coords .entry)))) (now (s .entry)) (fours (part (now (rows .entry)) (now (starts .entry)) x)) ⌝ }
+    ensures { λ r. ⌜ r ≡ soundBy (now (coords .entry)) (now (s .entry)) (fours (part (now (rows .entry)) (now (starts .entry)) x)) ⌝ }
 {
     let from = entry_of(starts, x);
     let end = entry_of(starts, x + 1);
@@ -157,7 +158,8 @@ fn faces_part(
 ) -> bool
     requires { ⌜ length (now marks) ≡ places ⌝ }
     requires { ⌜ Cut (now rows) (now triangles) x × Cut (now rows) (now quads) x ⌝ }
-    ensures { λ r. ⌜ r ≡ facesNoted (now (marks .entry)) (now (s .entry)) (threes (part (now (rows .entry)) (now (triangles .entry)) x)) (fours (part (now (rows .entry)) (now (quads .entry)) x)) ⌝ }
+    ensures { λ r. ⌜ r ≡ facesNoted (now (marks .entry)) (now (s .entry))
+        (threes (part (now (rows .entry)) (now (triangles .entry)) x)) (fours (part (now (rows .entry)) (now (quads .entry)) x)) ⌝ }
 {
     let from = entry_of(triangles, x);
     let end = entry_of(triangles, x + 1);
@@ -168,7 +170,7 @@ fn faces_part(
 
 fn sound_at(tables: &[u8], coords: &[i64], s: &[u16], x: usize) -> bool
     requires { ⌜ (now tables ≡ levels) × (Close (now coords) × (x < 19)) ⌝ }
-    ensures { λ r. ⌜ r ≡ boxesAbove (boxOf (pointsOf (now (coords .entry)))) (now (s .entry)) (levelTriples x) ⌝ }
+    ensures { λ r. ⌜ r ≡ soundBy (now (coords .entry)) (now (s .entry)) (levelTriples x) ⌝ }
 {
     sound_part(coords, s, tables, &tables[TRIPLES_AT..LESSER], x)
 }

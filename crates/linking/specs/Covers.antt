@@ -9,7 +9,8 @@ use Rattle.reaching.specs.declared.Edge.{Edge}
 use Rattle.reaching.specs.Reaching.{Links}
 use Rattle.linking.specs.declared.Linking.{Linking}
 
--- x is among what was met: there is some; it is the vertex, where that is single, and the vertex or the other, where they are a pair
+-- x is among what was met: there is some; it is the vertex, where that is single,
+-- and the vertex or the other, where they are a pair
 pub record Covers (s : Linking) (x : ℕ) : Type 0 where
   pub some : s .some ≡ true
   pub one : s .single ≡ true → x ≡ s .vertex .0

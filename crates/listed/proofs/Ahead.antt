@@ -225,7 +225,8 @@ module _ (zs : List ℤ) (ls ps : List ℕ) (k : ℕ) (s : List ℕ) (leaf : isL
       three c (inr i) (inl j) = c ∙ j
       three c (inr i) (inr j) = absurd (z (sym i ∙ c ∙ j))
 
-      -- a side face whose linking corner is neither o nor p closes; where both linking corners are of them, what they are decides
+      -- a side face whose linking corner is neither o nor p closes;
+      -- where both linking corners are of them, what they are decides
       sided : ((l : Linking (3 ∷ a ∷ []) 0 2 1 3) (r : Linking (3 ∷ b ∷ []) 0 1 2 3) → ((getD s (l .place) 0 ≡ o) ⊎ (getD s (l .place) 0 ≡ p)) → ((getD s (r .place) 0 ≡ o) ⊎ (getD s (r .place) 0 ≡ p)) → getD s (l .place) 0 ≡ getD s (r .place) 0) → Sided
       sided same =
           let l = leaf-links (3 ∷ a ∷ []) 0 2 1 3 h (e .one) in

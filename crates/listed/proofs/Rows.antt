@@ -1,4 +1,5 @@
--- A vertex that stands in a tetrahedron with two others makes a facet with them, as far as the neighbour table and the marks tell.
+-- A vertex that stands in a tetrahedron with two others makes a facet with them,
+-- as far as the neighbour table and the marks tell.
 -- Assumes nothing.
 use Prim.Native.Nat.{ℕ, _+_, _*_, _/_, _<_}
 use mathlib.Core.Path.{_≡_, refl, sym, subst}

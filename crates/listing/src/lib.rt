@@ -29,7 +29,8 @@ fn portion_in(
     requires { ⌜ Framed (now file) n t × (headed (now file) ≡ Accepted n t) ⌝ }
     requires { ⌜ (length (now coords) ≡ 3 * n) × ((length (now labels) ≡ 4 * t) × (length (now parts) ≡ t)) ⌝ }
     requires { ⌜ (n < length (now offsets)) × (4 * t ≤ length (now entries)) ⌝ }
-    ensures { λ r. ⌜ Portioned (now (file .entry)) (markOf mark) (now (table .entry)) (now (records .entry)) r (now (table .exit)) (now (records .exit)) ⌝ }
+    ensures { λ r. ⌜ Portioned (now (file .entry)) (markOf mark) (now (table .entry)) (now (records .entry)) r
+        (now (table .exit)) (now (records .exit)) ⌝ }
 {
     let number = arrays::load(file, n, t, coords, labels, parts, offsets, entries);
     if number != 0 {
@@ -58,7 +59,8 @@ fn portion_framed(
     records: &mut [u16],
 ) -> Answer
     requires { ⌜ Framed (now file) n t × (headed (now file) ≡ Accepted n t) ⌝ }
-    ensures { λ r. ⌜ Portioned (now (file .entry)) (markOf mark) (now (table .entry)) (now (records .entry)) r (now (table .exit)) (now (records .exit)) ⌝ }
+    ensures { λ r. ⌜ Portioned (now (file .entry)) (markOf mark) (now (table .entry)) (now (records .entry)) r
+        (now (table .exit)) (now (records .exit)) ⌝ }
 {
     let mut coords: [i64; 1536] = [0; 1536];
     let mut labels: [u16; 8192] = [0; 8192];
@@ -81,9 +83,11 @@ fn portion_framed(
 }
 
 // The cells after a mark, as many as the room has whole records for. Refusals 1 to 9 of the file come first, then 10
-// where the table is too short, 11 where the room holds no record, 12 where a cell has more tetrahedra than a record can hold.
+// where the table is too short, 11 where the room holds no record,
+// 12 where a cell has more tetrahedra than a record can hold.
 pub fn portion(file: &[u8], mark: Mark, table: &mut [u16], records: &mut [u16]) -> Answer
-    ensures { λ r. ⌜ Portioned (now (file .entry)) (markOf mark) (now (table .entry)) (now (records .entry)) r (now (table .exit)) (now (records .exit)) ⌝ }
+    ensures { λ r. ⌜ Portioned (now (file .entry)) (markOf mark) (now (table .entry)) (now (records .entry)) r
+        (now (table .exit)) (now (records .exit)) ⌝ }
 {
     let head = arrays::header(file);
     match head {

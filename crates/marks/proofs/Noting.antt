@@ -58,7 +58,8 @@ among x a vs e f g = or-either (eqb x a) (isIn x vs) e (λ h. f (ap (λ b. b || 
 of : {us vs ws : List ℕ} {x y z : ℕ} → isIn x us ≡ true → isIn y vs ≡ true → isIn z ws ≡ true → Among us vs ws (x, (y, z))
 of e f g = record { first = e; second = f; third = g }
 
--- one more vertex at the third place, at the last two, at all three: what has it in it is turned so that it comes first of these
+-- one more vertex at the third place, at the last two, at all three:
+-- what has it in it is turned so that it comes first of these
 module _ {m m′ m″ : List ℕ} {a : ℕ} where
   module _ {us vs : List ℕ} where
     pub line-next : {ws : List ℕ} → Notes m m′ (Among us vs (a ∷ [])) → Notes m′ m″ (Among us vs ws) → Notes m m″ (Among us vs (a ∷ ws))

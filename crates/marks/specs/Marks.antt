@@ -1,4 +1,5 @@
--- Marks of facets: a table in which three vertices have one place. Where the place is empty they are no facet; where it is not they may be.
+-- Marks of facets: a table in which three vertices have one place.
+-- Where the place is empty they are no facet; where it is not they may be.
 -- Assumes nothing.
 use Prim.Native.Nat.{ℕ, _%_}
 use mathlib.Core.Path.{_≡_}

@@ -1,4 +1,5 @@
-// Marks of facets, by which most vertices that cannot go on a tuple are told at once: a table in which three vertices have one place.
+// Marks of facets, by which most vertices that cannot go on a tuple are told at once:
+// a table in which three vertices have one place.
 use cells::corners3;
 use cells::corners4;
 use space::Vertex;
@@ -70,7 +71,8 @@ fn note_four(marks: &mut [u8], u: Vertex, a: Vertex, b: Vertex, c: Vertex, d: Ve
     note_three(marks, u, b, c, d);
 }
 
-// Each three of the four, in one order and also where two are one: those with a in them, of the others those with b, and so on.
+// Each three of the four, in one order and also where two are one:
+// those with a in them, of the others those with b, and so on.
 fn note_tet(marks: &mut [u8], a: Vertex, b: Vertex, c: Vertex, d: Vertex)
     requires { ⌜ length (now marks) ≡ places ⌝ }
     ensures { λ r. ⌜ Notes (now (marks .entry)) (now (marks .exit)) (OfTet (a .0 ∷ b .0 ∷ c .0 ∷ d .0 ∷ [])) ⌝ }

@@ -1,4 +1,5 @@
--- Each arrangement of corners that meets the conditions is listed once, whichever way it is turned, with exactly its own tetrahedra.
+-- Each arrangement of corners that meets the conditions is listed once, whichever way it is turned,
+-- with exactly its own tetrahedra.
 -- Nothing else is listed.
 -- Assumes nothing.
 use Prim.Native.Nat.{ℕ, zero, suc}

@@ -1,4 +1,5 @@
--- A turn of a tuple: conditions 1 to 6 and the tetrahedra are the same. Shown once for every row that passes one computed test.
+-- A turn of a tuple: conditions 1 to 6 and the tetrahedra are the same.
+-- Shown once for every row that passes one computed test.
 -- Assumes nothing.
 use Prim.Native.Nat.{ℕ, suc}
 use mathlib.Core.Path.{_≡_, refl, sym, _∙_, ap, ap₂, fun-ext}

@@ -1,4 +1,5 @@
--- Each arrangement of corners that meets the conditions is listed once, whichever way it is turned, with exactly its own tetrahedra.
+-- Each arrangement of corners that meets the conditions is listed once, whichever way it is turned,
+-- with exactly its own tetrahedra.
 -- Nothing else is listed.
 -- Assumes nothing.
 use Prim.Native.Nat.{ℕ}
@@ -22,11 +23,18 @@ abbrev pub none : Tetrahedron
 none = record { vertices = []; part = 0 }
 
 pub record Once (m : Mesh) : Type 0 where
-  -- of a tuple that is a cell, the entries that are its turns are one entry, the cell of one turn, and its tetrahedra are the tuple's
-  pub listed : {t : Template} → List·Memᴰ t templates → (c : List ℕ) → isCell m t c ≡ true → (r : List ℕ) × List·Memᴰ r (t .turns) × (keep (isTurn t c) (fullList m) ≡ cellIn m t (at c r) ∷ []) × (numbersOf m t (at c r) ≡ numbersOf m t c)
+  -- of a tuple that is a cell, the entries that are its turns are one entry, the cell of one turn,
+  -- and its tetrahedra are the tuple's
+  pub listed : {t : Template} → List·Memᴰ t templates → (c : List ℕ) → isCell m t c ≡ true
+      → (r : List ℕ) × List·Memᴰ r (t .turns) × (keep (isTurn t c) (fullList m) ≡ cellIn m t (at c r) ∷ [])
+      × (numbersOf m t (at c r) ≡ numbersOf m t c)
   -- whichever way a tuple is turned, these entries are the same
-  pub turned : {t : Template} → List·Memᴰ t templates → {r : List ℕ} → List·Memᴰ r (t .turns) → (c : List ℕ) → length c ≡ t .corners → keep (isTurn t (at c r)) (fullList m) ≡ keep (isTurn t c) (fullList m)
+  pub turned : {t : Template} → List·Memᴰ t templates → {r : List ℕ} → List·Memᴰ r (t .turns) → (c : List ℕ)
+      → length c ≡ t .corners
+      → keep (isTurn t (at c r)) (fullList m) ≡ keep (isTurn t c) (fullList m)
   -- each entry is a cell in least form, with its tetrahedra, and no other entry is a turn of it
-  pub entry : {d : Cell} → List·Memᴰ d (fullList m) → (t : Template) × List·Memᴰ t templates × (isCell m t (d .corners) ≡ true) × (isLeast t (d .corners) ≡ true) × (d ≡ cellIn m t (d .corners)) × (keep (isTurn t (d .corners)) (fullList m) ≡ d ∷ [])
+  pub entry : {d : Cell} → List·Memᴰ d (fullList m)
+      → (t : Template) × List·Memᴰ t templates × (isCell m t (d .corners) ≡ true) × (isLeast t (d .corners) ≡ true)
+      × (d ≡ cellIn m t (d .corners)) × (keep (isTurn t (d .corners)) (fullList m) ≡ d ∷ [])
   -- those tetrahedra are all that belong to the tuple, and no other, by their numbers, rising
   pub own : (t : Template) (c : List ℕ) → numbersOf m t c ≡ keep (λ i. belongs m t c (getD (m .tets) i none)) (upTo (length (m .tets)))

@@ -24,8 +24,10 @@ pub record Same (m : Mesh) (t : Template) (c d : List ℕ) : Type 0 where
 -- the tuple c and its mirror
 pub record Mirrored (m : Mesh) (t : Template) (c : List ℕ) : Type 0 where
   -- each corner box of the mirror is one of the tuple's, negated
-  pub negated : {ks : List ℕ} → List·Memᴰ ks (t .triples) → (js : List ℕ) × List·Memᴰ js (t .triples) × (boxAt m (at (at c (t .mirror)) ks) ≡ negℤ (boxAt m (at c js)))
+  pub negated : {ks : List ℕ} → List·Memᴰ ks (t .triples)
+      → (js : List ℕ) × List·Memᴰ js (t .triples) × (boxAt m (at (at c (t .mirror)) ks) ≡ negℤ (boxAt m (at c js)))
   -- and each corner box of the tuple, negated, is one of the mirror's
-  pub reached : {js : List ℕ} → List·Memᴰ js (t .triples) → (ks : List ℕ) × List·Memᴰ ks (t .triples) × (boxAt m (at (at c (t .mirror)) ks) ≡ negℤ (boxAt m (at c js)))
+  pub reached : {js : List ℕ} → List·Memᴰ js (t .triples)
+      → (ks : List ℕ) × List·Memᴰ ks (t .triples) × (boxAt m (at (at c (t .mirror)) ks) ≡ negℤ (boxAt m (at c js)))
   -- not both hands are sound
   pub oneHand : isSound m t c ≡ true → isSound m t (at c (t .mirror)) ≡ true → ⊥

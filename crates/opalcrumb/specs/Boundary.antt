@@ -10,6 +10,7 @@ use lib.ListN.{getD}
 use Rattle.space.specs.declared.Point.{Point}
 use Rattle.space.specs.declared.Boxed.{Boxed}
 use Rattle.space.specs.declared.Boxed.the-variants.{Value, Refused}
+use Rattle.space.specs.Box.{boxed}
 use Rattle.records.specs.declared.Answer.{Answer}
 use Rattle.records.specs.declared.Answer.the-variants.{Refused as Barred, Given}
 use Rattle.record.specs.Marks.{markOf, nine}
@@ -21,6 +22,10 @@ use Rattle.turning.specs.declared.Least.the-variants.{Form, Refused as NoForm}
 -- the point of three numbers
 abbrev pub pointOf : List ℤ → Point
 pointOf zs = record { x = getD zs 0 (pos 0); y = getD zs 1 (pos 0); z = getD zs 2 (pos 0) }
+
+-- what is answered for the box of four points, three numbers each
+abbrev pub boxedBy : List ℤ → List ℤ → List ℤ → List ℤ → Boxed
+boxedBy p q r s = boxed (pointOf p) (pointOf q) (pointOf r) (pointOf s)
 
 -- the box, or what stood there
 abbrev pub boxLeft : Boxed → ℤ → ℤ
@@ -39,7 +44,8 @@ abbrev pub markLeft : Answer → List ℕ → List ℕ
 markLeft (Barred k n) old = old
 markLeft (Given count none mark) old = markOf mark
 
--- how many records were written, at 32 bits, which no room that a machine has goes beyond; on refusals 1 to 11 as it was
+-- how many records were written, at 32 bits, which no room that a machine has goes beyond;
+-- on refusals 1 to 11 as it was
 abbrev pub countLeft : Answer → ℕ → ℕ
 countLeft (Barred k n) old = cond (eqb k 12) (n % 4294967296) old
 countLeft (Given count none mark) old = count % 4294967296
@@ -49,7 +55,8 @@ abbrev pub endLeft : Answer → ℕ → ℕ
 endLeft (Barred k n) old = old
 endLeft (Given count none mark) old = cond none 1 0
 
--- what a call promises of a file f: it is `listing::portion`'s answer that is handed out, and that function's table and room
+-- what a call promises of a file f: it is `listing::portion`'s answer that is handed out,
+-- and that function's table and room
 pub record Passed (f mark table room : List ℕ) (count end number : ℕ) (mark′ table′ room′ : List ℕ) (count′ end′ : ℕ) : Type 0 where
   pub answer : Answer
   pub portioned : Portioned f (nine mark) table room answer table′ room′

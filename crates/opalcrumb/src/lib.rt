@@ -10,11 +10,11 @@ use space::Point;
 use turning::Least;
 ghost use mathlib.Core.Path.{_≡_};
 ghost use lib.ListN.{length};
-ghost use Rattle.space.specs.Box.{boxed, boxNumber};
+ghost use Rattle.space.specs.Box.{boxNumber};
 ghost use Rattle.arrays.specs.Refusals.{refusal};
 ghost use Rattle.turning.specs.Form.{leastForm, leastNumber};
 ghost use Rattle.records.specs.Marks.{answerNumber};
-ghost use Rattle.opalcrumb.specs.Boundary.{pointOf, boxLeft, leastLeft, markLeft, countLeft, endLeft, Passed};
+ghost use Rattle.opalcrumb.specs.Boundary.{pointOf, boxedBy, boxLeft, leastLeft, markLeft, countLeft, endLeft, Passed};
 
 // 0 for a sound mesh, else refusal 1 to 9.
 #[no_mangle]
@@ -58,8 +58,9 @@ pub extern "C" fn opalcrumb_box(
     s: &[i32; 3],
     value: &mut i64,
 ) -> u32
-    ensures answer { λ k. ⌜ k ≡ boxNumber (boxed (pointOf (now (p .entry))) (pointOf (now (q .entry))) (pointOf (now (r .entry))) (pointOf (now (s .entry)))) ⌝ }
-    ensures value { λ k. ⌜ now (value .exit) ≡ boxLeft (boxed (pointOf (now (p .entry))) (pointOf (now (q .entry))) (pointOf (now (r .entry))) (pointOf (now (s .entry)))) (now (value .entry)) ⌝ }
+    ensures answer { λ k. ⌜ k ≡ boxNumber (boxedBy (now (p .entry)) (now (q .entry)) (now (r .entry)) (now (s .entry))) ⌝ }
+    ensures value { λ k. ⌜ now (value .exit)
+        ≡ boxLeft (boxedBy (now (p .entry)) (now (q .entry)) (now (r .entry)) (now (s .entry))) (now (value .entry)) ⌝ }
 {
     let answer = space::box_product(point_of(p), point_of(q), point_of(r), point_of(s));
     match answer {
@@ -128,7 +129,9 @@ pub extern "C" fn opalcrumb_portion(
     count: &mut u32,
     end: &mut u32,
 ) -> u32
-    ensures { λ k. ⌜ Passed (now (file .entry)) (now (mark .entry)) (now (table .entry)) (now (records .entry)) (now (count .entry)) (now (end .entry)) k (now (mark .exit)) (now (table .exit)) (now (records .exit)) (now (count .exit)) (now (end .exit)) ⌝ }
+    ensures { λ k. ⌜ Passed
+        (now (file .entry)) (now (mark .entry)) (now (table .entry)) (now (records .entry)) (now (count .entry)) (now (end .entry))
+        k (now (mark .exit)) (now (table .exit)) (now (records .exit)) (now (count .exit)) (now (end .exit)) ⌝ }
 {
     let answer = listing::portion(file, mark_of(*mark), table, records);
     hand_out(answer, mark, count, end)

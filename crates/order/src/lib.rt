@@ -7,8 +7,8 @@ ghost use lib.Dec.{eqb};
 ghost use Rattle.base.specs.Lists.{pad};
 ghost use Rattle.templates.specs.Tables.{prism, pyramid, templateOf, at, eight};
 
-// Of a hexahedron the place of each corner in search order, and the corner at each place. Of the other kinds the two orders
-// are one.
+// Of a hexahedron the place of each corner in search order, and the corner at each place.
+// Of the other kinds the two orders are one.
 const HEX_PLACES: [u8; 8] = [0, 1, 4, 2, 3, 5, 7, 6];
 
 const HEX_ORDER: [u8; 8] = [0, 1, 3, 4, 2, 5, 7, 6];

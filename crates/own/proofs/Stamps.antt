@@ -1,4 +1,5 @@
--- Stamps: one for each corner, so that a tetrahedron with a vertex that has none is not one of the cell's. Assumes nothing.
+-- Stamps: one for each corner, so that a tetrahedron with a vertex that has none is not one of the cell's.
+-- Assumes nothing.
 use mathlib.Core.Path.{_≡_, refl, sym, _∙_}
 use mathlib.Core.Bool.{Bool, true, false}
 use mathlib.Core.List.{List}

@@ -5,7 +5,7 @@ ghost use lib.ListN.{length};
 ghost use Rattle.base.specs.Lists.{all, any, isIn};
 ghost use Rattle.space.specs.Arrays.{row4};
 ghost use Rattle.templates.specs.Tables.{at};
-ghost use Rattle.cells.specs.Rows.{fours, owns};
+ghost use Rattle.cells.specs.Rows.{fours, ownsBy};
 ghost use Rattle.own.specs.Stamps.{Hit, hasStamp, Stamped};
 use cells::corners4;
 use space::Tet;
@@ -60,7 +60,7 @@ fn on_some_quad(labels: &[u16], e: Tet, c: &[u16], rows: &[u8]) -> bool
 // The tetrahedron is one of the cell's.
 pub fn belongs_to(labels: &[u16], e: Tet, c: &[u16], quads: &[u8]) -> bool
     requires { ⌜ e .0 < length (now labels) / 4 ⌝ }
-    ensures { λ r. ⌜ r ≡ owns (now (labels .entry)) (fours (now (quads .entry))) (now (c .entry)) (e .0) ⌝ }
+    ensures { λ r. ⌜ r ≡ ownsBy (now (labels .entry)) (now (quads .entry)) (now (c .entry)) (e .0) ⌝ }
 {
     if !all_in(labels, e, c) {
         return false;
@@ -120,7 +120,7 @@ fn may_be_in(labels: &[u16], e: Tet, m: &[u8; 512]) -> bool
 // The tetrahedron is one of the cell's and not below lo. Most have a vertex without a stamp, which is seen soonest.
 pub fn is_hit(labels: &[u16], e: Tet, lo: usize, m: &[u8; 512], c: &[u16], quads: &[u8]) -> bool
     requires { ⌜ (e .0 < length (now labels) / 4) × Stamped (now c) (length (now c)) (now m) ⌝ }
-    ensures { λ r. ⌜ Hit (owns (now (labels .entry)) (fours (now (quads .entry))) (now (c .entry)) (e .0)) lo (e .0) r ⌝ }
+    ensures { λ r. ⌜ Hit (ownsBy (now (labels .entry)) (now (quads .entry)) (now (c .entry)) (e .0)) lo (e .0) r ⌝ }
 {
     let j = e.0 as usize;
     if j < lo {

@@ -1,4 +1,5 @@
--- What stores in the table add up to, and that each tetrahedron told at its four facets is told at each three different vertices of it.
+-- What stores in the table add up to, and that each tetrahedron told at its four facets is told at each three different
+-- vertices of it.
 -- Assumes nothing.
 use Prim.Native.Nat.{ℕ, _+_, _*_, _/_, _%_, _<_}
 use mathlib.Core.Path.{_≡_, refl, sym, _∙_, ap}
@@ -34,7 +35,8 @@ put-first {p} e u v w k q h z = record {
     first : (j m : ℕ) → getD p (2 * j) 0 ≡ m + 1 → getD (set p (2 * k) (e + 1)) (2 * j) 0 ≡ m + 1
     first j m b = getD-set-other p (2 * k) (2 * j) (e + 1) 0 (λ f. omega (arith, z, ap (λ i. getD p i 0) f, b)) ∙ b
 
--- the second is free, and what the place told before was told by the first; or the place tells whatever is asked from now on
+-- the second is free, and what the place told before was told by the first;
+-- or the place tells whatever is asked from now on
 pub put-second : {p : List ℕ} (e u v w k x : ℕ) → k ≡ place u v w → 2 * k + 1 < length p → ((getD p (2 * k + 1) 0 ≡ 0) × (x ≡ e + 1)) ⊎ (x ≡ 65535) → Puts p (set p (2 * k + 1) x) (OfFacet e u v w)
 put-second {p} e u v w k x q h z = record {
   same = length-set p (2 * k + 1) x;

@@ -1,5 +1,6 @@
 -- The tetrahedra at a facet: a table in which three vertices have one place, and two numbers stand at each place.
--- A number is a tetrahedron's plus one, and 0 for none; the second is 65,535 where there are more than two. Other three may have the same place.
+-- A number is a tetrahedron's plus one, and 0 for none; the second is 65,535 where there are more than two.
+-- Other three may have the same place.
 -- Assumes nothing.
 use Prim.Native.Nat.{ℕ, _+_, _*_, _/_, _%_, _<_}
 use mathlib.Core.Path.{_≡_}

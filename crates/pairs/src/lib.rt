@@ -72,7 +72,8 @@ pub fn put_all(labels: &[u16], pairs: &mut [u16])
 
 // ---- reading it
 
-// What stands at a place: each of the two is a tetrahedron's number plus one, or 0. Where there are many, they say nothing.
+// What stands at a place: each of the two is a tetrahedron's number plus one, or 0.
+// Where there are many, they say nothing.
 pub struct Pair {
     pub many: bool,
     pub one: u16,

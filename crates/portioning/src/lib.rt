@@ -1,4 +1,5 @@
-// The portion of a mesh in arrays: refusals 10 and 11, the neighbour table, the marks of the facets, and the records of the cells after a mark.
+// The portion of a mesh in arrays: refusals 10 and 11, the neighbour table, the marks of the facets,
+// and the records of the cells after a mark.
 use record::Mark;
 use record::SIZE;
 use records::Answer;
@@ -36,7 +37,8 @@ fn write_listed(
 ) -> Answer
     requires { ⌜ Arrays (now coords) (now labels) (now parts) n (now offsets) (now entries) ⌝ }
     requires { ⌜ Tabled (now labels) n (now table) ⌝ }
-    ensures { λ r. ⌜ Written (meshOf (now (coords .entry)) (now (labels .entry)) (now (parts .entry))) (markOf mark) (now (records .entry)) r (now (records .exit)) ⌝ }
+    ensures { λ r. ⌜ Written (meshOf (now (coords .entry)) (now (labels .entry)) (now (parts .entry)))
+        (markOf mark) (now (records .entry)) r (now (records .exit)) ⌝ }
 {
     let mut marks: [u8; 131072] = [0; 131072];
     marks::note_facets(labels, &mut marks);
@@ -56,7 +58,8 @@ fn write_listed(
     )
 }
 
-// The portion of a mesh in arrays. The room is looked at before the table is filled, and told of after the table's size.
+// The portion of a mesh in arrays. The room is looked at before the table is filled,
+// and told of after the table's size.
 pub fn portion_of(
     coords: &[i64],
     labels: &[u16],
@@ -69,7 +72,8 @@ pub fn portion_of(
     records: &mut [u16],
 ) -> Answer
     requires { ⌜ Arrays (now coords) (now labels) (now parts) n (now offsets) (now entries) ⌝ }
-    ensures { λ r. ⌜ Promised [] (meshOf (now (coords .entry)) (now (labels .entry)) (now (parts .entry))) n (markOf mark) (now (table .entry)) (now (records .entry)) r (now (table .exit)) (now (records .exit)) ⌝ }
+    ensures { λ r. ⌜ Promised [] (meshOf (now (coords .entry)) (now (labels .entry)) (now (parts .entry))) n
+        (markOf mark) (now (table .entry)) (now (records .entry)) r (now (table .exit)) (now (records .exit)) ⌝ }
 {
     let roomy = is_roomy(records);
     let filled = neighbours::fill_if(labels, n, roomy, table);

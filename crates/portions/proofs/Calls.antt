@@ -79,7 +79,8 @@ module _ (k : ℕ) (leaf : List ℕ → Bool) where
       in
       (a, full-unique ts us t u a (tail-full m t ts f) (tail-full m′ u us g))
 
--- a run of calls that has not ended: ts is what it gave from m on, and r the mark of the next call. One more call goes at the end, as a loop has it
+-- a run of calls that has not ended: ts is what it gave from m on, and r the mark of the next call.
+-- One more call goes at the end, as a loop has it
 pub data Steps (k : ℕ) (leaf : List ℕ → Bool) : List ℕ → List (List ℕ) → List ℕ → Type 0 where
   none : {m : List ℕ} → Steps k leaf m [] m
   one : {m r s : List ℕ} {ts : List (List ℕ)} → LeastAfter k leaf m true r → Steps k leaf r ts s → Steps k leaf m (r ∷ ts) s

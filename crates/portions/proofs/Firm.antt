@@ -1,4 +1,5 @@
--- How firm the promise of a portion is: it leaves one outcome, a record tells its cell, a mark cuts the list in two, and what does not keep it.
+-- How firm the promise of a portion is: it leaves one outcome, a record tells its cell, a mark cuts the list in two,
+-- and what does not keep it.
 -- Assumes nothing.
 use Prim.Native.Nat.{ℕ, _+_, _*_, _/_, _<_, _≤_}
 use mathlib.Core.Path.{_≡_, refl, sym, _∙_, ap, ap₂, subst}

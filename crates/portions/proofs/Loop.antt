@@ -1,4 +1,5 @@
--- A loop that calls a search for the next cell, once more than it has room for, meets the portion's promise. Over any rule of cells.
+-- A loop that calls a search for the next cell, once more than it has room for, meets the portion's promise.
+-- Over any rule of cells.
 -- Assumes nothing.
 use Prim.Native.Nat.{ℕ, suc, _+_, _-_, _*_, _/_, _<_, _≤_}
 use mathlib.Core.Path.{_≡_, refl, sym, _∙_, ap, ap₂, subst}

@@ -1,4 +1,5 @@
--- What one portion gives, over any rule of cells: what comes after its marks, what it writes, how many, and what the caller reads.
+-- What one portion gives, over any rule of cells: what comes after its marks, what it writes, how many,
+-- and what the caller reads.
 -- Assumes nothing.
 use Prim.Native.Nat.{ℕ, _+_, _*_, _/_, _<_, _≤_}
 use mathlib.Core.Path.{_≡_, refl, sym, _∙_, ap, ap₂, subst}

@@ -83,7 +83,8 @@ module _ {A : Type 0} (rule : Rule A) (full : List A) (law : Lawful rule full) w
   onward : {k room j left : List ℕ} {n : ℕ} {rooms : List (List ℕ)} → Call rule full k room n false j left → (i : ℕ) × (got : List ℕ) × (k′ : List ℕ) × Calls rule full j (take i rooms) got true k′ → (i : ℕ) × (got : List ℕ) × (k′ : List ℕ) × Calls rule full k (take i (room ∷ rooms)) got true k′
   onward {left} {n} c x = (suc (x .0), read rule full n left ++ x .1, x .2, more c (x .3))
 
-  -- and if a record can hold each cell after a mark, calls from it come to the end, with as many rooms as there are cells
+  -- and if a record can hold each cell after a mark, calls from it come to the end,
+  -- with as many rooms as there are cells
   pub reaches : (rooms : List (List ℕ)) (k : List ℕ) → ((room : List ℕ) → List·Memᴰ room rooms → rule .size ≤ length room) → all (rule .fits) (after rule full k) ≡ true → max 1 (length (after rule full k)) ≤ length rooms → (i : ℕ) × (got : List ℕ) × (k′ : List ℕ) × Calls rule full k (take i rooms) got true k′
   unfolding cellsIn
   reaches [] k w f l = absurd (let z : ⊥ = omega arith in z)

@@ -47,7 +47,8 @@ pub record Open (k : ℕ) (leaf : List ℕ → Bool) (m t : List ℕ) (d lo : �
   pub past : Past m t d lo
   pub ahead : (s : List ℕ) → leaf s ≡ true → Lt k m s → Ahead t d lo s
 
--- what the search is told of the test: of a tuple that passes, each entry is below n; and it reads the first k entries alone
+-- what the search is told of the test: of a tuple that passes, each entry is below n;
+-- and it reads the first k entries alone
 pub record Laws (k n : ℕ) (leaf : List ℕ → Bool) : Type 0 where
   pub small : (s : List ℕ) (d : ℕ) → leaf s ≡ true → d < k → getD s d 0 < n
   pub reads : (s t : List ℕ) → Agree k s t → leaf s ≡ leaf t

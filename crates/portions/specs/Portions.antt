@@ -84,7 +84,8 @@ module _ {A : Type 0} (rule : Rule A) where
       let p = portionOf k (after full k) (room / rule .size) in
       cond (ltb room (rule .size)) (reply (refused 11) []) p
 
-  -- what a rule and its full list keep to: the list rises, the start is before it and the end after it, a record has its size
+  -- what a rule and its full list keep to: the list rises, the start is before it and the end after it,
+  -- a record has its size
   pub record Lawful (full : List A) : Type 0 where
     pub some : 0 < rule .size
     pub sized : (c : A) → List·Memᴰ c full → rule .fits c ≡ true → length (rule .entries c) ≡ rule .size

@@ -34,7 +34,8 @@ pub record LeastAfter (k : ℕ) (leaf : List ℕ → Bool) (m : List ℕ) (found
   pub least : found ≡ true → (s : List ℕ) → leaf s ≡ true → Lt k m s → Le k r s
   pub none : found ≡ false → (s : List ℕ) → leaf s ≡ true → Lt k m s → ⊥
 
--- at place d the search goes on with r, where it is below n: from lo on up to r, no number goes on from the first d entries of t to a tuple that passes
+-- at place d the search goes on with r, where it is below n:
+-- from lo on up to r, no number goes on from the first d entries of t to a tuple that passes
 pub record Skips (leaf : List ℕ → Bool) (t : List ℕ) (d n lo r : ℕ) : Type 0 where
   pub low : r < n → lo ≤ r
   pub miss : (s : List ℕ) → leaf s ≡ true → Agree d t s → lo ≤ getD s d 0 → getD s d 0 < r → ⊥

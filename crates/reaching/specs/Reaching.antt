@@ -1,5 +1,5 @@
--- Looking ahead of a cell's face: what an edge of it must allow while the next corner is not yet known, as far as the neighbour table and the
--- marks of facets tell.
+-- Looking ahead of a cell's face: what an edge of it must allow while the next corner is not yet known,
+-- as far as the neighbour table and the marks of facets tell.
 -- Assumes nothing.
 use Prim.Native.Nat.{ℕ, _≤_, _<_}
 use mathlib.Core.Path.{_≡_}

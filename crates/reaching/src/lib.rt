@@ -1,5 +1,7 @@
-// Looking ahead of a cell's face that has three known corners at most: which vertices can be reached over an edge of it.
-// What is gone through is the row, in the neighbour table, of the one of two vertices that has fewer neighbours; facets are told by their marks.
+// Looking ahead of a cell's face that has three known corners at most:
+// which vertices can be reached over an edge of it.
+// What is gone through is the row, in the neighbour table, of the one of two vertices that has fewer neighbours;
+// facets are told by their marks.
 use marks::is_noted;
 use neighbours::Row;
 use neighbours::row_of;
@@ -16,8 +18,8 @@ ghost use Rattle.reaching.specs.Reaching.{Lent, Chosen, mayLink, Faces, 
 // A row that is longer than this is not gone through. The choice is a matter of speed alone.
 pub const MANY: usize = 48;
 
-// An edge of a face, from w to u, that the next corner follows; and the vertices that may not link that corner and w at u: those below the
-// floor, o, p and q.
+// An edge of a face, from w to u, that the next corner follows;
+// and the vertices that may not link that corner and w at u: those below the floor, o, p and q.
 pub struct Edge {
     pub u: Vertex,
     pub w: Vertex,
@@ -124,7 +126,8 @@ fn noted_row(marks: &[u8], row: &[u16], u: Vertex, x: Vertex, lo: usize, best: u
     b
 }
 
-// The least of best and the vertices from lo on that make a facet with u and x. Where both have many neighbours, the marks alone are asked.
+// The least of best and the vertices from lo on that make a facet with u and x.
+// Where both have many neighbours, the marks alone are asked.
 fn facing(
     n: usize,
     table: &[u16],

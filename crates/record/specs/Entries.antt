@@ -1,5 +1,6 @@
--- A cell's record, entry by entry: its kind, its corners, how many tetrahedra it has, and their numbers. How many places there are
--- for each, and so where each stands and how long a record is, is said here alone; src/lib.rt has the same as constants.
+-- A cell's record, entry by entry: its kind, its corners, how many tetrahedra it has, and their numbers.
+-- How many places there are for each, and so where each stands and how long a record is, is said here alone;
+-- src/lib.rt has the same as constants.
 -- Assumes nothing.
 use Prim.Native.Nat.{ℕ, _+_}
 use mathlib.Core.Bool.{Bool}
@@ -7,7 +8,7 @@ use mathlib.Core.List.{List, _∷_, _++_}
 use lib.Dec.{leb}
 use lib.ListN.{length, getD, take, drop}
 use Rattle.base.specs.Lists.{pad}
-use Rattle.templates.specs.Tables.{templateOf}
+use Rattle.templates.specs.Tables.{tupleOf}
 use Rattle.cells.specs.Full.{Cell, cell}
 
 -- places for corners and for tetrahedra, and what stands in one that is not used
@@ -43,4 +44,4 @@ entries c =
 unfoldable pub cellOf : List ℕ → Cell
 cellOf xs =
     let k = getD xs 0 0 in
-    cell k (take (templateOf k .corners) (drop 1 xs)) (take (getD xs countAt 0) (drop tetsAt xs))
+    cell k (tupleOf k (drop 1 xs)) (take (getD xs countAt 0) (drop tetsAt xs))

@@ -2,9 +2,9 @@
 -- Assumes nothing.
 use Prim.Native.Nat.{ℕ}
 use mathlib.Core.List.{List, [], _∷_, _++_}
-use lib.ListN.{getD, take, drop}
+use lib.ListN.{getD, drop}
 use Rattle.base.specs.Lists.{pad}
-use Rattle.templates.specs.Tables.{templateOf}
+use Rattle.templates.specs.Tables.{tupleOf}
 use Rattle.cells.specs.Full.{Cell, cell}
 use Rattle.record.specs.Entries.{cornerPlaces, unused}
 use Rattle.record.specs.declared.Mark.{Mark}
@@ -33,7 +33,7 @@ nine xs =
 
 -- the corners that a mark names, as many as its kind has
 abbrev pub cornersOf : List ℕ → List ℕ
-cornersOf k = take (templateOf (getD k 0 0) .corners) (drop 1 k)
+cornersOf k = tupleOf (getD k 0 0) (drop 1 k)
 
 -- the cell of a mark with the tetrahedra of these numbers
 abbrev pub told : List ℕ → List ℕ → Cell

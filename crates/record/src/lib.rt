@@ -96,7 +96,8 @@ fn head_of(mark: Mark, count: usize) -> [u16; TETS_AT]
     [m.kind, m.a, m.b, m.c, m.d, m.e, UNUSED, UNUSED, UNUSED, x]
 }
 
-// Puts record i of a room: that of the cell which the mark is of, with the first `count` numbers of the list as its tetrahedra.
+// Puts record i of a room: that of the cell which the mark is of,
+// with the first `count` numbers of the list as its tetrahedra.
 pub fn put_record(room: &mut [u16], i: usize, mark: Mark, count: usize, list: [u16; TET_PLACES])
     requires { ⌜ (count ≤ tetPlaces) × (list ≡ pad tetPlaces unused (take count list)) ⌝ }
     requires { ⌜ i * recordSize + recordSize ≤ length (now room) ⌝ }

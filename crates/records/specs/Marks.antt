@@ -34,7 +34,8 @@ abbrev pub wrote : Answer → ℕ
 wrote (Refused k n) = n
 wrote (Given count none mark) = count
 
--- what a portion of the cells of a mesh promises, from the mark k on in this room: the answer and what it leaves there, and how many records that is
+-- what a portion of the cells of a mesh promises, from the mark k on in this room:
+-- the answer and what it leaves there, and how many records that is
 pub record Written (m : Mesh) (k room : List ℕ) (a : Answer) (left : List ℕ) : Type 0 where
   pub outcome : Outcome tetRule (fullList m) k room (says a) left
   pub counted : length (portion tetRule (fullList m) k (length room) .written) ≡ tetRule .size * wrote a

@@ -17,8 +17,8 @@ ghost use Rattle.search.specs.Ready.{Ready};
 ghost use Rattle.records.specs.declared.Answer.the-variants.{Refused};
 ghost use Rattle.records.specs.Marks.{Written, Filled, Reaches};
 
-// A refusal by its number, with how many records were written before it: only 12, where the next cell has more tetrahedra
-// than a record can hold, comes after any.
+// A refusal by its number, with how many records were written before it:
+// only 12, where the next cell has more tetrahedra than a record can hold, comes after any.
 pub enum Answer {
     Refused {
         number: u8,
@@ -37,7 +37,8 @@ fn refused(number: u8, written: usize) -> Answer
     Answer::Refused { number, written }
 }
 
-// How far the records came, and how many there are: the room is full, no cell is left, or the next one is too long for a record.
+// How far the records came, and how many there are: the room is full, no cell is left,
+// or the next one is too long for a record.
 pub enum Reached {
     Full { count: usize, mark: Mark },
     Ended { count: usize },
@@ -59,9 +60,10 @@ fn write_up(
     records: &mut [u16],
 ) -> Reached
     requires { ⌜ now tables ≡ levels ⌝ }
-    requires { ⌜ Ready (now coords) (now labels) n (now offsets) (now entries) (now marks) (now table) × (length (now parts) ≡ length (now labels) / 4) ⌝ }
+    requires { ⌜ Ready (now coords) (now labels) (now parts) n (now offsets) (now entries) (now marks) (now table) ⌝ }
     requires { ⌜ recordSize ≤ length (now records) ⌝ }
-    ensures { λ r. ⌜ Reaches (meshOf (now (coords .entry)) (now (labels .entry)) (now (parts .entry))) (markOf mark) (now (records .entry)) r (now (records .exit)) ⌝ }
+    ensures { λ r. ⌜ Reaches (meshOf (now (coords .entry)) (now (labels .entry)) (now (parts .entry)))
+        (markOf mark) (now (records .entry)) r (now (records .exit)) ⌝ }
 {
     let most = records.len() / SIZE;
     let mut i: usize = 0;
@@ -115,8 +117,8 @@ fn filled(count: usize, left: bool, mark: Mark) -> Answer
     }
 }
 
-// Writes the records of the cells after the mark, as many as the room holds. Where the room is full it is asked whether any cell is left: so the
-// end is told with the last cell.
+// Writes the records of the cells after the mark, as many as the room holds.
+// Where the room is full it is asked whether any cell is left: so the end is told with the last cell.
 pub fn write_cells(
     tables: &[u8],
     coords: &[i64],
@@ -131,8 +133,9 @@ pub fn write_cells(
     records: &mut [u16],
 ) -> Answer
     requires { ⌜ now tables ≡ levels ⌝ }
-    requires { ⌜ Ready (now coords) (now labels) n (now offsets) (now entries) (now marks) (now table) × (length (now parts) ≡ length (now labels) / 4) ⌝ }
-    ensures { λ r. ⌜ Written (meshOf (now (coords .entry)) (now (labels .entry)) (now (parts .entry))) (markOf mark) (now (records .entry)) r (now (records .exit)) ⌝ }
+    requires { ⌜ Ready (now coords) (now labels) (now parts) n (now offsets) (now entries) (now marks) (now table) ⌝ }
+    ensures { λ r. ⌜ Written (meshOf (now (coords .entry)) (now (labels .entry)) (now (parts .entry)))
+        (markOf mark) (now (records .entry)) r (now (records .exit)) ⌝ }
 {
     if records.len() < SIZE {
         return refused(11, 0);

@@ -37,7 +37,8 @@ fn put_both(first: &[u16], second: &[u16], room: &mut [u16])
 // Whether the room is enough for two lists, one behind the other; they are written where it is, if they are wanted.
 pub fn put_if(first: &[u16], second: &[u16], wanted: bool, room: &mut [u16]) -> Filled
     ensures answer { λ r. ⌜ r ≡ filledBy (now (first .entry) ++ now (second .entry)) (length (now (room .entry))) ⌝ }
-    ensures content { λ r. ⌜ now (room .exit) ≡ cond wanted (laidBy (now (first .entry) ++ now (second .entry)) (now (room .entry))) (now (room .entry)) ⌝ }
+    ensures content { λ r. ⌜ now (room .exit)
+        ≡ cond wanted (laidBy (now (first .entry) ++ now (second .entry)) (now (room .entry))) (now (room .entry)) ⌝ }
 {
     let size = first.len() + second.len();
     if room.len() < size {

@@ -1,4 +1,5 @@
--- The rule keeps to the laws: the full list rises, the start is before it and nine zeros after it, a record has its size and tells its cell. And its order is the one of `comesAfter`.
+-- The rule keeps to the laws: the full list rises, the start is before it and nine zeros after it,
+-- a record has its size and tells its cell. And its order is the one of `comesAfter`.
 -- Assumes nothing.
 use Prim.Native.Nat.{ℕ, zero, suc, _-_, _<_, _≤_}
 use mathlib.Core.Path.{_≡_, refl, sym, _∙_, ap, ap₂}
@@ -70,7 +71,8 @@ module _ (m : Mesh) where
   unfolding fullList
   full-sane h = let x = spread-at (cellsOf m) templates h in sane-of (x .0) (flat-of (x .1)) (x .2)
 
-  -- a mark of a kind above 8, as the start mark, has every cell after it, and one of a kind below 5, as nine zeros, none
+  -- a mark of a kind above 8, as the start mark, has every cell after it,
+  -- and one of a kind below 5, as nine zeros, none
   pub after-above : (k : ℕ) (vs : List ℕ) → 8 < k → after tetRule (fullList m) (k ∷ vs) ≡ fullList m
   unfolding after isAfter key
   after-above k vs l = keep-all (isAfter tetRule (k ∷ vs)) (fullList m) (all-from (isAfter tetRule (k ∷ vs)) (fullList m) (λ c h. before-less (65535 - k) (65535 - c .kind) _ _ (omega (arith, full-sane h .high))))

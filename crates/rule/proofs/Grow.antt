@@ -1,4 +1,5 @@
--- The candidates of a kind rise in search order, and they are the tuples of distinct vertices below n that are in least form.
+-- The candidates of a kind rise in search order,
+-- and they are the tuples of distinct vertices below n that are in least form.
 -- Assumes nothing.
 use Prim.Native.Nat.{ℕ, zero, suc, _+_, _<_}
 use mathlib.Core.Path.{_≡_, refl, sym, _∙_, ap, ap₂, subst}

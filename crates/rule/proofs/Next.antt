@@ -47,7 +47,8 @@ module _ (m : Mesh) (t : Template) (flat : Flat t) where
     only = λ s e h. zeros-before m t flat s e;
   }
 
-  -- a tuple that passes makes a cell after every mark of a greater kind, and after those of its own with a lesser first number
+  -- a tuple that passes makes a cell after every mark of a greater kind,
+  -- and after those of its own with a lesser first number
   pub later-all : {a : ℕ} (vs s : List ℕ) → t .kind < a → isLeaf m t s ≡ true → isAfter tetRule (a ∷ vs) (cellAt m t s) ≡ true
   later-all vs s l e = alike-all {vs = vs} l .later s e (zeros-before m t flat s e)
 

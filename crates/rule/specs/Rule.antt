@@ -5,8 +5,10 @@ use mathlib.Core.Path.{_≡_}
 use mathlib.Core.Bool.{Bool, true, false, _&&_, _||_}
 use mathlib.Core.List.{List, [], _∷_, _++_}
 use lib.Dec.{eqb, ltb}
+use lib.IntN.{ℤ}
 use lib.ListN.{replicate}
 use Rattle.space.specs.Mesh.{Mesh}
+use Rattle.space.specs.Arrays.{meshOf}
 use Rattle.templates.specs.Tables.{Place, Template, templateOf, at}
 use Rattle.least.specs.Least.{isLeast}
 use Rattle.cells.specs.Cells.{isCell}
@@ -18,7 +20,8 @@ use Rattle.portions.specs.Tuples.{Agree, LeastAfter}
 
 -- ── marks: a kind number and eight numbers in letter order ──
 
--- the key of a mark: kinds fall, so it is 65,535 less the kind; then the numbers in the kind's search order, and none beyond its corners
+-- the key of a mark: kinds fall, so it is 65,535 less the kind;
+-- then the numbers in the kind's search order, and none beyond its corners
 unfoldable pub key : List ℕ → List ℕ
 key [] = []
 key (k ∷ vs) = (65535 - k) ∷ at vs (templateOf k .order)
@@ -57,8 +60,17 @@ goesOn n (p ∷ ps) s (v ∷ u) = let r = goesOn n ps (s ++ (v ∷ [])) u in ltb
 unfoldable pub cellAt : Mesh → Template → List ℕ → Cell
 cellAt m t s = cellIn m t (at s (t .places))
 
--- the search of one kind for the mark of kind a with the numbers vs: none for a kind above the mark's, from vs on for its kind, and all of a kind below
+-- the same of a kind, in the mesh that the arrays say: whether a tuple is listed, and the tetrahedra of its cell
+abbrev pub leafIn : List ℤ → List ℕ → List ℕ → ℕ → List ℕ → Bool
+leafIn zs ls ps k s = isLeaf (meshOf zs ls ps) (templateOf k) s
+
+abbrev pub leafTets : List ℤ → List ℕ → List ℕ → ℕ → List ℕ → List ℕ
+leafTets zs ls ps k s = cellAt (meshOf zs ls ps) (templateOf k) s .tets
+
+-- the search of one kind for the mark of kind a with the numbers vs:
+-- none for a kind above the mark's, from vs on for its kind, and all of a kind below
 pub data Searched (m : Mesh) (t : Template) (a : ℕ) (vs : List ℕ) : Bool → List ℕ → Type 0 where
   past : {r : List ℕ} → a < t .kind → Searched m t a vs false r
-  within : {found : Bool} {r : List ℕ} (v : List ℕ) → a ≡ t .kind → Agree (t .corners) v (at vs (t .order)) → LeastAfter (t .corners) (isLeaf m t) v found r → Searched m t a vs found r
+  within : {found : Bool} {r : List ℕ} (v : List ℕ) → a ≡ t .kind → Agree (t .corners) v (at vs (t .order))
+      → LeastAfter (t .corners) (isLeaf m t) v found r → Searched m t a vs found r
   whole : {found : Bool} {r : List ℕ} → t .kind < a → LeastAfter (t .corners) (isLeaf m t) (replicate 8 0) found r → Searched m t a vs found r

@@ -40,17 +40,17 @@ set-agrees t d l s a v q =
     (λ j b. getD-set-other t d j v 0 (λ e. omega arith) ∙ a j b)
     (getD-set-same t d v 0 l ∙ q)
 
-module _ {zs : List ℤ} {ls : List ℕ} {n : ℕ} {os es ms table : List ℕ} (g : Ready zs ls n os es ms table) where
+module _ {zs : List ℤ} {ls ps : List ℕ} {n : ℕ} {os es ms table : List ℕ} (g : Ready zs ls ps n os es ms table) where
   pub sought-of : Sought zs n ms table
   sought-of = record {
-    close = g .close;
-    counted = g .counted;
-    lent = record { few = g .few; rowed = tabled-rowed (g .tabled); sized = g .marked .size };
+    close = g .arrays .close;
+    counted = g .arrays .counted;
+    lent = record { few = g .arrays .few; rowed = tabled-rowed (g .tabled); sized = g .marked .size };
     served = λ v. let w = row-of-in (g .tabled) v refl in record { inside = w .inside; rises = entries-rise w };
   }
 
   pub drawn-of : Drawn ls n ms table
-  drawn-of = record { labelled = g .indexed .labelled; marked = g .marked; tabled = g .tabled }
+  drawn-of = record { labelled = g .arrays .indexed .labelled; marked = g .marked; tabled = g .tabled }
 
 -- ── rows that serve ──
 

@@ -1,4 +1,5 @@
--- A hunt by whatever aim is known leaves out no cell, and neither does a search from the first vertex that a place may have.
+-- A hunt by whatever aim is known leaves out no cell,
+-- and neither does a search from the first vertex that a place may have.
 -- Assumes nothing.
 use Prim.Native.Nat.{ℕ, _+_, _-_, _<_, _≤_}
 use mathlib.Core.Path.{_≡_, refl, subst}

@@ -1,20 +1,21 @@
 -- What the search is lent, and where it begins.
 -- Assumes nothing.
-use Prim.Native.Nat.{ℕ, _+_, _/_, _≤_, _<_}
+use Prim.Native.Nat.{ℕ, _+_, _/_, _<_}
 use mathlib.Core.Path.{_≡_}
 use mathlib.Core.Logic.{_⊎_}
 use mathlib.Core.Bool.{true}
 use mathlib.Core.List.{List, []}
 use lib.IntN.{ℤ}
 use lib.ListN.{length}
-use Rattle.space.specs.Arrays.{meshOf, Close}
-use Rattle.around.specs.Index.{Labelled, Indexed}
+use Rattle.space.specs.Arrays.{Close}
+use Rattle.around.specs.Index.{Labelled}
+use Rattle.around.specs.Arrays.{Arrays}
 use Rattle.space.specs.Mesh.{Mesh}
 use Rattle.templates.specs.Tables.{Template, templateOf}
 use Rattle.marks.specs.Marks.{Marked}
 use Rattle.neighbours.specs.Reading.{Tabled, rowIn}
 use Rattle.portions.specs.Tuples.{Agree}
-use Rattle.rule.specs.Rule.{isLeaf, cellAt}
+use Rattle.rule.specs.Rule.{isLeaf, cellAt, leafIn}
 use Rattle.filling.specs.Found.{Found as Numbered}
 use Rattle.search.specs.declared.Found.{Found}
 use Rattle.reaching.specs.Reaching.{Lent}
@@ -22,12 +23,9 @@ use Rattle.levels.specs.declared.Place.{Place}
 use Rattle.levels.specs.Levels.{base}
 use Rattle.candidates.specs.Met.{Served}
 
--- the mesh of n vertices in working arrays, its index, the marks of its facets and its neighbour table
-pub record Ready (zs : List ℤ) (ls : List ℕ) (n : ℕ) (os es ms table : List ℕ) : Type 0 where
-  pub close : Close zs
-  pub counted : length zs / 3 ≡ n
-  pub few : n ≤ 512
-  pub indexed : Indexed ls n os es
+-- the mesh of n vertices in working arrays with its index, the marks of its facets and its neighbour table
+pub record Ready (zs : List ℤ) (ls ps : List ℕ) (n : ℕ) (os es ms table : List ℕ) : Type 0 where
+  pub arrays : Arrays zs ls ps n os es
   pub marked : Marked ls ms
   pub tabled : Tabled ls n table
 
@@ -53,10 +51,11 @@ pub record Last (k : ℕ) (place : Place) : Type 0 where
   pub row : place .row ≡ base k + place .at
   pub corners : place .at + 1 ≡ templateOf k .corners
 
--- the search for tuples after the mark begins at place r: the last, or one at which no listed tuple goes on with the mark's entry
+-- the search for tuples after the mark begins at place r:
+-- the last, or one at which no listed tuple goes on with the mark's entry
 pub record Begins (zs : List ℤ) (n : ℕ) (ms table : List ℕ) (k : ℕ) (mark : List ℕ) (r : ℕ) : Type 0 where
   pub within : r < templateOf k .corners
-  pub last : (ls ps : List ℕ) → Drawn ls n ms table → (r + 1 ≡ templateOf k .corners) ⊎ ((s : List ℕ) → isLeaf (meshOf zs ls ps) (templateOf k) s ≡ true → Agree (r + 1) mark s → ⊥)
+  pub last : (ls ps : List ℕ) → Drawn ls n ms table → (r + 1 ≡ templateOf k .corners) ⊎ ((s : List ℕ) → leafIn zs ls ps k s ≡ true → Agree (r + 1) mark s → ⊥)
 
 -- what is said of the tuple s: whether it is listed, and then its tetrahedra
 pub record Tested (m : Mesh) (t : Template) (s : List ℕ) (r : Found) : Type 0 where

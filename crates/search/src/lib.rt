@@ -1,4 +1,5 @@
-// The search for the next cell of a kind: the least tuple after a tuple that is a cell in least form, by an odometer over one tuple with a level.
+// The search for the next cell of a kind: the least tuple after a tuple that is a cell in least form,
+// by an odometer over one tuple with a level.
 // x is the row of a place in the tables of the levels.
 use candidates::Rows;
 use candidates::meet_rows;
@@ -29,7 +30,7 @@ ghost use Rattle.templates.specs.Tables.{templateOf};
 ghost use Rattle.filling.specs.Found.{Found as Numbered};
 ghost use Rattle.around.specs.Arrays.{Arrays};
 ghost use Rattle.portions.specs.Tuples.{Skips, LeastAfter};
-ghost use Rattle.rule.specs.Rule.{isLeaf, cellAt};
+ghost use Rattle.rule.specs.Rule.{leafIn, leafTets};
 ghost use Rattle.levels.specs.Levels.{base, levels};
 ghost use Rattle.levels.specs.Fits.{Placed};
 ghost use Rattle.search.specs.Ready.{Ready, Sought, Drawn, OfKind, Last, Begins, Tested};
@@ -51,7 +52,8 @@ fn base_of(kind: u16) -> usize
     if kind == 6 { 8 } else { 14 }
 }
 
-// Where to go on at a place from lo: a vertex with which the tuple passes, or none of the n vertices. No cell is left out before it.
+// Where to go on at a place from lo: a vertex with which the tuple passes, or none of the n vertices.
+// No cell is left out before it.
 fn seek(
     tables: &[u8],
     coords: &[i64],
@@ -64,7 +66,8 @@ fn seek(
     requires { ⌜ now tables ≡ levels ⌝ }
     requires { ⌜ Sought (now coords) n (now marks) (now table) ⌝ }
     requires { ⌜ Placed place ⌝ }
-    ensures { λ r. ⌜ ((k : ℕ) (ls ps : List ℕ) → OfKind k place → Drawn ls n (now (marks .entry)) (now (table .entry)) → Skips (isLeaf (meshOf (now (coords .entry)) ls ps) (templateOf k)) (place .tuple) (place .at) n lo r) ⌝ }
+    ensures { λ r. ⌜ ((k : ℕ) (ls ps : List ℕ) → OfKind k place → Drawn ls n (now (marks .entry)) (now (table .entry))
+        → Skips (leafIn (now (coords .entry)) ls ps k) (place .tuple) (place .at) n lo r) ⌝ }
 {
     let d = place.at;
     if d == 0 {
@@ -87,8 +90,9 @@ fn seek(
 
 // ---- the search
 
-// The first place at which no cell goes on with the mark's entry, or the last, which is lent with the mark. Where the mark is a cell that was told already,
-// it is the last: then it need not be looked for. That is a matter of speed alone.
+// The first place at which no cell goes on with the mark's entry, or the last, which is lent with the mark.
+// Where the mark is a cell that was told already, it is the last: then it need not be looked for.
+// That is a matter of speed alone.
 fn start(
     tables: &[u8],
     coords: &[i64],
@@ -158,7 +162,8 @@ fn none(t: [u16; 8]) -> Found
     }
 }
 
-// The least tuple of a kind after the mark that is a cell in least form. Entries past the kind's corners keep what the mark has there.
+// The least tuple of a kind after the mark that is a cell in least form.
+// Entries past the kind's corners keep what the mark has there.
 pub fn next(
     tables: &[u8],
     coords: &[i64],
@@ -174,9 +179,10 @@ pub fn next(
     told: bool,
 ) -> Found
     requires { ⌜ now tables ≡ levels ⌝ }
-    requires { ⌜ Ready (now coords) (now labels) n (now offsets) (now entries) (now marks) (now table) × (length (now parts) ≡ length (now labels) / 4) ⌝ }
-    ensures { λ r. ⌜ LeastAfter (templateOf kind .corners) (isLeaf (meshOf (now (coords .entry)) (now (labels .entry)) (now (parts .entry))) (templateOf kind)) mark (r .found) (r .tuple) ⌝ }
-    ensures { λ r. ⌜ (r .found ≡ true → Numbered (cellAt (meshOf (now (coords .entry)) (now (labels .entry)) (now (parts .entry))) (templateOf kind) (r .tuple) .tets) (r .tets)) ⌝ }
+    requires { ⌜ Ready (now coords) (now labels) (now parts) n (now offsets) (now entries) (now marks) (now table) ⌝ }
+    ensures { λ r. ⌜ LeastAfter (templateOf kind .corners)
+        (leafIn (now (coords .entry)) (now (labels .entry)) (now (parts .entry)) kind) mark (r .found) (r .tuple) ⌝ }
+    ensures { λ r. ⌜ (r .found ≡ true → Numbered (leafTets (now (coords .entry)) (now (labels .entry)) (now (parts .entry)) kind (r .tuple)) (r .tets)) ⌝ }
 {
     let k = corners_of(kind);
     let base = base_of(kind);

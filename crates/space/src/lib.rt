@@ -185,7 +185,8 @@ fn times(x: usize, y: usize) -> usize
     x * y
 }
 
-// Three vertices as one number, whatever their order. Other three rarely have the same one at the last bits, so it tells a place in a table.
+// Three vertices as one number, whatever their order. Other three rarely have the same one at the last bits,
+// so it tells a place in a table.
 pub fn spread(u: Vertex, v: Vertex, w: Vertex) -> usize
     ensures { λ r. ⌜ r ≡ spread (u .0) (v .0) (w .0) ⌝ }
 {

@@ -4,7 +4,7 @@ use Prim.Native.Nat.{ℕ}
 use mathlib.Core.Bool.{Bool, cond, _||_}
 use mathlib.Core.List.{List, [], _∷_, map}
 use lib.Dec.{eqb}
-use lib.ListN.{getD}
+use lib.ListN.{getD, take}
 
 -- the corners
 abbrev pub a : ℕ
@@ -31,7 +31,8 @@ g = 6
 abbrev pub h : ℕ
 h = 7
 
--- a place of the search order, by number: the earlier places whose vertex must be less, and those that an edge joins it to
+-- a place of the search order, by number: the earlier places whose vertex must be less,
+-- and those that an edge joins it to
 pub record Place : Type 0 where
   pub below : List ℕ
   pub joined : List ℕ
@@ -174,6 +175,10 @@ isKind k = eqb k 8 || eqb k 6 || eqb k 5
 
 abbrev pub templateOf : ℕ → Template
 templateOf k = cond (eqb k 8) hexahedron (cond (eqb k 6) prism pyramid)
+
+-- of these numbers the first, as many as a kind has corners
+abbrev pub tupleOf : ℕ → List ℕ → List ℕ
+tupleOf k vs = take (templateOf k .corners) vs
 
 -- the vertices of a tuple at these corners
 abbrev pub at : List ℕ → List ℕ → List ℕ

@@ -1,4 +1,5 @@
--- A second rule: quadrilaterals, with records of eight entries. Which four vertices are one, and its triangles and part, are left open.
+-- A second rule: quadrilaterals, with records of eight entries.
+-- Which four vertices are one, and its triangles and part, are left open.
 -- Assumes nothing.
 use Prim.Native.Nat.{ℕ, _-_}
 use mathlib.Core.Bool.{Bool, true}

@@ -1,6 +1,6 @@
-// A trial of the promise of a portion on the smallest rule: the cells are the numbers below n that leave 1 over 3, a mark
-// is a number, and a record is the number and a 7. The loop is the one that any listing has: ask for the next cell first,
-// then whether the room is full.
+// A trial of the promise of a portion on the smallest rule:
+// the cells are the numbers below n that leave 1 over 3, a mark is a number, and a record is the number and a 7.
+// The loop is the one that any listing has: ask for the next cell first, then whether the room is full.
 ghost use mathlib.Core.List.{[], _∷_};
 ghost use Prim.Native.Nat.{_+_, _≤_};
 ghost use lib.ListN.{length};

@@ -12,14 +12,14 @@ use templates::all_distinct;
 use templates::turned;
 ghost use mathlib.Core.Path.{_≡_};
 ghost use mathlib.Core.Bool.{cond};
-ghost use mathlib.Core.List.{[], map};
+ghost use mathlib.Core.List.{[]};
 ghost use Prim.Native.Nat.{_*_, _≤_};
 ghost use lib.ListN.{length};
-ghost use Rattle.base.specs.Lists.{keep, upTo, lastOr};
-ghost use Rattle.templates.specs.Tables.{hexahedron, prism, pyramid, at, eight};
-ghost use Rattle.templates.specs.Flat.{rowOf, rowsOf, pairs};
+ghost use Rattle.base.specs.Lists.{keep, lastOr};
+ghost use Rattle.templates.specs.Tables.{hexahedron, prism, pyramid, eight};
+ghost use Rattle.templates.specs.Flat.{rowsOf, pairs};
 ghost use Rattle.least.specs.Least.{risesAt};
-ghost use Rattle.turning.specs.Form.{formOf, formBy, leastForm};
+ghost use Rattle.turning.specs.Form.{turnsBy, formOf, formBy, leastForm};
 
 // What is answered for a least form: its eight numbers, 0 where the kind has no corner, or refusal 13.
 pub enum Least {
@@ -37,7 +37,7 @@ fn better(best: [u16; 8], x: [u16; 8], less: &[u8]) -> [u16; 8]
 // Of the n turns by a table of k corners a row, the one that rises.
 fn least_turn(c: &[u16], k: usize, n: usize, turns: &[u8], less: &[u8]) -> [u16; 8]
     requires { ⌜ k * n ≤ length (now turns) ⌝ }
-    ensures { λ r. ⌜ r ≡ lastOr (eight []) (keep (risesAt (pairs (now (less .entry)))) (map (λ i. eight (at (now (c .entry)) (rowOf k (now (turns .entry)) i))) (upTo n))) ⌝ }
+    ensures { λ r. ⌜ r ≡ lastOr (eight []) (keep (risesAt (pairs (now (less .entry)))) (turnsBy k n (now (turns .entry)) (now (c .entry)))) ⌝ }
 {
     let mut best = [0u16; 8];
     let mut i = 0;

@@ -1,5 +1,5 @@
--- Condition 5 implies 2 and 3: a triangle on the boundary is a facet of one of the cell's tetrahedra, and every edge is a side of one,
--- whichever diagonal a quadrilateral has. Assumes nothing.
+-- Condition 5 implies 2 and 3: a triangle on the boundary is a facet of one of the cell's tetrahedra,
+-- and every edge is a side of one, whichever diagonal a quadrilateral has. Assumes nothing.
 use mathlib.Core.Path.{_≡_, refl, sym, _∙_, ap}
 use mathlib.Core.Bool.{Bool, true, false, cond, _&&_, _||_, true≢false}
 use mathlib.Core.List.{List, [], _∷_}

@@ -14,7 +14,8 @@ use Rattle.filling.specs.declared.Tets.{Tets}
 use Rattle.filling.specs.Found.{Found}
 use Rattle.verdict.specs.declared.Verdict.{Verdict}
 
--- these tables are the template's: how many corners, its triangles, its quadrilaterals, its corner triples and its triples on no face
+-- these tables are the template's: how many corners, its triangles, its quadrilaterals,
+-- its corner triples and its triples on no face
 pub record TablesOf (t : Template) (k : ℕ) (ts qs cs ws : List ℕ) : Type 0 where
   pub corners : k ≡ t .corners
   pub triangles : threes ts ≡ t .triangles

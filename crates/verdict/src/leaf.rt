@@ -8,10 +8,8 @@ ghost use mathlib.Core.Path.{_≡_};
 ghost use mathlib.Core.Bool.{true};
 ghost use Prim.Native.Nat.{_/_};
 ghost use lib.ListN.{length};
-ghost use Rattle.space.specs.Arrays.{meshOf};
-ghost use Rattle.templates.specs.Tables.{templateOf};
 ghost use Rattle.filling.specs.Found.{Found};
-ghost use Rattle.rule.specs.Rule.{isLeaf, cellAt};
+ghost use Rattle.rule.specs.Rule.{leafIn, leafTets};
 ghost use Rattle.around.specs.Arrays.{Arrays};
 
 // The tuple, in search order, is a cell in least form, and the tetrahedra of that cell.
@@ -25,8 +23,8 @@ pub fn is_leaf(
     s: [u16; 8],
 ) -> Verdict
     requires { ⌜ Arrays (now coords) (now labels) (now parts) (length (now coords) / 3) (now offsets) (now entries) ⌝ }
-    ensures { λ r. ⌜ r .yes ≡ isLeaf (meshOf (now (coords .entry)) (now (labels .entry)) (now (parts .entry))) (templateOf kind) s ⌝ }
-    ensures { λ r. ⌜ (r .yes ≡ true → Found (cellAt (meshOf (now (coords .entry)) (now (labels .entry)) (now (parts .entry))) (templateOf kind) s .tets) (r .tets)) ⌝ }
+    ensures { λ r. ⌜ r .yes ≡ leafIn (now (coords .entry)) (now (labels .entry)) (now (parts .entry)) kind s ⌝ }
+    ensures { λ r. ⌜ (r .yes ≡ true → Found (leafTets (now (coords .entry)) (now (labels .entry)) (now (parts .entry)) kind s) (r .tets)) ⌝ }
 {
     let c = letters(kind, s);
     if !is_least(kind, &c) {

@@ -1,11 +1,12 @@
-// The cell test, for a kind and its eight numbers: the first of conditions 1 to 6 that a tuple fails; whether it is a cell, with its tetrahedra.
+// The cell test, for a kind and its eight numbers: the first of conditions 1 to 6 that a tuple fails;
+// whether it is a cell, with its tetrahedra.
 ghost use mathlib.Core.Path.{_≡_};
 ghost use mathlib.Core.Bool.{false};
 ghost use Prim.Native.Nat.{_/_, _≤_};
-ghost use lib.ListN.{length, take};
+ghost use lib.ListN.{length};
 ghost use Rattle.space.specs.Arrays.{meshOf};
 ghost use Rattle.around.specs.Arrays.{Arrays};
-ghost use Rattle.templates.specs.Tables.{Template, templateOf};
+ghost use Rattle.templates.specs.Tables.{Template, templateOf, tupleOf};
 ghost use Rattle.templates.specs.Flat.{pairs};
 ghost use Rattle.cells.specs.Cells.{isCell, firstFailing};
 ghost use Rattle.counting.specs.Noted.{Lettered};
@@ -53,7 +54,10 @@ fn judge_by(
 ) -> u8
     requires { ⌜ Arrays (now coords) (now labels) (now parts) (length (now coords) / 3) (now offsets) (now entries) ⌝ }
     requires { ⌜ Lettered (now triangles) (now quads) (now within) ⌝ }
-    ensures { λ r. ⌜ ((t : Template) → TablesOf t corners (now (triangles .entry)) (now (quads .entry)) (now (triples .entry)) (now (within .entry)) → pairs (now (edges .entry)) ≡ t .edges → r ≡ firstFailing (meshOf (now (coords .entry)) (now (labels .entry)) (now (parts .entry))) t (now (c .entry))) ⌝ }
+    ensures { λ r. ⌜ ((t : Template)
+        → TablesOf t corners (now (triangles .entry)) (now (quads .entry)) (now (triples .entry)) (now (within .entry))
+        → pairs (now (edges .entry)) ≡ t .edges
+        → r ≡ firstFailing (meshOf (now (coords .entry)) (now (labels .entry)) (now (parts .entry))) t (now (c .entry))) ⌝ }
 {
     if !is_tuple(coords, c, corners) {
         return 1;
@@ -82,7 +86,8 @@ fn judge_kind(
     tuple: &[u16],
 ) -> u8
     requires { ⌜ Arrays (now coords) (now labels) (now parts) (length (now coords) / 3) (now offsets) (now entries) × (8 ≤ length (now tuple)) ⌝ }
-    ensures { λ r. ⌜ r ≡ firstFailing (meshOf (now (coords .entry)) (now (labels .entry)) (now (parts .entry))) (templateOf kind) (take (templateOf kind .corners) (now (tuple .entry))) ⌝ }
+    ensures { λ r. ⌜ r ≡ firstFailing (meshOf (now (coords .entry)) (now (labels .entry)) (now (parts .entry)))
+        (templateOf kind) (tupleOf kind (now (tuple .entry))) ⌝ }
 {
     let table = all_rows();
     let all = &table[..];
@@ -122,7 +127,8 @@ pub fn judge(
     tuple: &[u16; 8],
 ) -> u8
     requires { ⌜ Arrays (now coords) (now labels) (now parts) (length (now coords) / 3) (now offsets) (now entries) ⌝ }
-    ensures { λ r. ⌜ r ≡ firstFailing (meshOf (now (coords .entry)) (now (labels .entry)) (now (parts .entry))) (templateOf kind) (take (templateOf kind .corners) (now (tuple .entry))) ⌝ }
+    ensures { λ r. ⌜ r ≡ firstFailing (meshOf (now (coords .entry)) (now (labels .entry)) (now (parts .entry)))
+        (templateOf kind) (tupleOf kind (now (tuple .entry))) ⌝ }
 {
     judge_kind(coords, labels, parts, offsets, entries, kind, tuple)
 }
@@ -148,7 +154,8 @@ fn no() -> Verdict
     }
 }
 
-// Conditions 1, 4, 5 and 6 for whatever template these tables are of, the cheap ones first; `within` are the triples on no face.
+// Conditions 1, 4, 5 and 6 for whatever template these tables are of, the cheap ones first;
+// `within` are the triples on no face.
 fn is_solid(
     coords: &[i64],
     labels: &[u16],
@@ -164,7 +171,9 @@ fn is_solid(
 ) -> Verdict
     requires { ⌜ Arrays (now coords) (now labels) (now parts) (length (now coords) / 3) (now offsets) (now entries) ⌝ }
     requires { ⌜ Lettered (now triangles) (now quads) (now within) ⌝ }
-    ensures { λ r. ⌜ ((t : Template) → TablesOf t corners (now (triangles .entry)) (now (quads .entry)) (now (triples .entry)) (now (within .entry)) → Tells isSolid (meshOf (now (coords .entry)) (now (labels .entry)) (now (parts .entry))) t (now (c .entry)) r) ⌝ }
+    ensures { λ r. ⌜ ((t : Template)
+        → TablesOf t corners (now (triangles .entry)) (now (quads .entry)) (now (triples .entry)) (now (within .entry))
+        → Tells isSolid (meshOf (now (coords .entry)) (now (labels .entry)) (now (parts .entry))) t (now (c .entry)) r) ⌝ }
 {
     if !is_tuple(coords, c, corners) {
         return no();
@@ -191,7 +200,8 @@ fn is_of_kind(
     tuple: &[u16],
 ) -> Verdict
     requires { ⌜ Arrays (now coords) (now labels) (now parts) (length (now coords) / 3) (now offsets) (now entries) × (8 ≤ length (now tuple)) ⌝ }
-    ensures { λ r. ⌜ Tells isCell (meshOf (now (coords .entry)) (now (labels .entry)) (now (parts .entry))) (templateOf kind) (take (templateOf kind .corners) (now (tuple .entry))) r ⌝ }
+    ensures { λ r. ⌜ Tells isCell (meshOf (now (coords .entry)) (now (labels .entry)) (now (parts .entry)))
+        (templateOf kind) (tupleOf kind (now (tuple .entry))) r ⌝ }
 {
     let table = all_rows();
     let all = &table[..];
@@ -219,7 +229,8 @@ fn is_of_kind(
     )
 }
 
-// The tuple is a cell, and its tetrahedra: as `judge` would say, but conditions 2 and 3 are not looked at, since 5 implies them.
+// The tuple is a cell, and its tetrahedra: as `judge` would say, but conditions 2 and 3 are not looked at,
+// since 5 implies them.
 pub fn is_cell(
     coords: &[i64],
     labels: &[u16],
@@ -230,7 +241,8 @@ pub fn is_cell(
     tuple: &[u16; 8],
 ) -> Verdict
     requires { ⌜ Arrays (now coords) (now labels) (now parts) (length (now coords) / 3) (now offsets) (now entries) ⌝ }
-    ensures { λ r. ⌜ Tells isCell (meshOf (now (coords .entry)) (now (labels .entry)) (now (parts .entry))) (templateOf kind) (take (templateOf kind .corners) (now (tuple .entry))) r ⌝ }
+    ensures { λ r. ⌜ Tells isCell (meshOf (now (coords .entry)) (now (labels .entry)) (now (parts .entry)))
+        (templateOf kind) (tupleOf kind (now (tuple .entry))) r ⌝ }
 {
     is_of_kind(coords, labels, parts, offsets, entries, kind, tuple)
 }

@@ -1,4 +1,5 @@
--- `arrays::load` meets its contract: what was read is the file's, and the tests behind tell its refusal. Assumes nothing.
+-- `arrays::load` meets its contract: what was read is the file's, and the tests behind tell its refusal.
+-- Assumes nothing.
 use mathlib.Core.Path.{sym, _∙_}
 use native.Mathlib.Omega.{arith}
 use Rattle.arrays.proofs.Numbers.{numbers-close}

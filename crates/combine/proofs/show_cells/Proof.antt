@@ -1,4 +1,5 @@
--- `combine::show_cells` meets its contract. The loop's invariant: the text has its length, and the next line's place lies in it. Assumes nothing.
+-- `combine::show_cells` meets its contract. The loop's invariant:
+-- the text has its length, and the next line's place lies in it. Assumes nothing.
 use mathlib.Core.Path.{_≡_}
 use Prim.Native.Nat.{_+_, _*_, _-_, _≤_, _<_}
 use native.Mathlib.Omega.{arith}

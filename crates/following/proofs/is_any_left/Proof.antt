@@ -11,8 +11,7 @@ first-after-requires c κs = search needs
 sees-requires : tie.Need-sees-requires
 sees-requires c κs =
     let s = c .before .before .before .before .before .before .before .before .before .before in
-    let h = s .pre .1 .0 in
-    rw (h .counted) (record { close = h .close; counted = h .counted; few = h .few; indexed = h .indexed; parted = s .pre .1 .1 })
+    rw (s .pre .1 .arrays .counted) (s .pre .1 .arrays)
 
 returns : tie.Need-returns
 returns c = seen-remains _ (c .before .before .before .before .before .before .before .before .before .before .before .before .args .mark) (c .before .sees .ensures (c .if2 .taken)) (omega (arith, c .before .before .if1 .taken)) (c .before .before .before .before .first-after .ensures)

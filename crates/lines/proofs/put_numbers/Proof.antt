@@ -1,4 +1,5 @@
--- `lines::put_numbers` meets its contract. The loop's invariant: the numbers passed are laid from `from` on. Assumes nothing.
+-- `lines::put_numbers` meets its contract. The loop's invariant: the numbers passed are laid from `from` on.
+-- Assumes nothing.
 use mathlib.Core.Path.{_≡_, refl, sym, _∙_, ap}
 use Prim.Native.Nat.{_+_, _-_, _≤_, _<_}
 use native.Mathlib.Omega.{arith}

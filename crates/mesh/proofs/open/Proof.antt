@@ -1,5 +1,8 @@
--- `mesh::open` meets its contract: a walk of its MIR, by hand. `counts_of` is called on the file, and a view is made of the file and the two counts. All that the proof knows of `counts_of` is that it meets its contract.
--- A `&[u8]` is Copy, so what it owns is had three times: for the call, for file at exit, and inside the result, beside the facts of the counts.
+-- `mesh::open` meets its contract: a walk of its MIR, by hand.
+-- `counts_of` is called on the file, and a view is made of the file and the two counts.
+-- All that the proof knows of `counts_of` is that it meets its contract.
+-- A `&[u8]` is Copy, so what it owns is had three times:
+-- for the call, for file at exit, and inside the result, beside the facts of the counts.
 -- Assumes nothing.
 use mathlib.Core.Path.{_≡_, refl, ap}
 use Prim.Native.Nat.{ℕ, _<_, _^_}

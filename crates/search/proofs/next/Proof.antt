@@ -42,7 +42,7 @@ start-requires c κs =
     let q = c .base-of .ensures in
     let h = c .before .corners-of .ensures in
     let i = row-in (z .args .kind) (c .before .corners-of .result - 1) (omega (arith, h)) in
-    (z .pre .0, (sought-of (z .pre .1 .0), (record { row = omega (arith, q, i); at = i .1 }, omega arith)))
+    (z .pre .0, (sought-of (z .pre .1), (record { row = omega (arith, q, i); at = i .1 }, omega arith)))
 
 mul-wide : tie.Need-mul-wide Inv-loop μ-loop
 mul-wide c =
@@ -65,12 +65,12 @@ add-lo c = omega arith
 loop-holds : tie.Need-loop-holds Inv-loop μ-loop
 loop-holds c =
     let z = c .before .before .before .before .before .before .before .before .before .before .before in
-    let w = laws-of (sought-of (z .pre .1 .0)) (z .args .kind) (z .args .mark) (z .args .labels .now) (z .args .parts .now) in
+    let w = laws-of (sought-of (z .pre .1)) (z .args .kind) (z .args .mark) (z .args .labels .now) (z .args .parts .now) in
     let g = z .good .1 .1 .1 .1 .1 .1 .1 .1 .1 .1 .0 in
     let l : length (z .args .mark) ≡ 8 = search needs in
     let k = c .before .before .before .corners-of .ensures in
     let b = c .before .start .ensures (z .args .kind) (last-of (c .before .before .base-of .ensures .0) (k .0) (omega (arith, k))) in
-    rw (c .wide .ensures .0) (begin w (b .within) (omega (arith, k)) (b .last (z .args .labels .now) (z .args .parts .now) (drawn-of (z .pre .1 .0))))
+    rw (c .wide .ensures .0) (begin w (b .within) (omega (arith, k)) (b .last (z .args .labels .now) (z .args .parts .now) (drawn-of (z .pre .1))))
 
 add-t29 : tie.Need-add-t29 Inv-loop μ-loop
 add-t29 c = omega (arith, c .loop .inv .inside)
@@ -79,7 +79,7 @@ seek-requires : tie.Need-seek-requires Inv-loop μ-loop
 seek-requires c κs =
     let z = c .before .before .before .before .before .before .before .before .before .before .before .before in
     let i = row-in (z .args .kind) (c .loop .d) (c .loop .inv .inside) in
-    (z .pre .0, (sought-of (z .pre .1 .0), record { row = omega (arith, c .before .before .before .base-of .ensures, i); at = i .1 }))
+    (z .pre .0, (sought-of (z .pre .1), record { row = omega (arith, c .before .before .before .base-of .ensures, i); at = i .1 }))
 
 cast-t : tie.Need-cast-t Inv-loop μ-loop
 cast-t c = omega arith
@@ -101,44 +101,43 @@ loop-less c =
     let z = c .before .before .before .before .before .before .before .before .before .before .before .before .before .before .before in
     let o = c .before .before .before .loop in
     let s = c .before .before .seek in
-    less-descend (z .args .n) (c .before .before .before .before .before .before .before .corners-of .result) (o .t) (o .d) (o .lo) (s .result) (s .ensures (z .args .kind) (z .args .labels .now) (z .args .parts .now) (of-kind (c .before .before .before .before .before .before .base-of .ensures .0) (o .inv .inside)) (drawn-of (z .pre .1 .0)) .low (omega arith)) (omega arith) (omega (arith, o .inv .inside, o .inv .long)) (omega arith)
+    less-descend (z .args .n) (c .before .before .before .before .before .before .before .corners-of .result) (o .t) (o .d) (o .lo) (s .result) (s .ensures (z .args .kind) (z .args .labels .now) (z .args .parts .now) (of-kind (c .before .before .before .before .before .before .base-of .ensures .0) (o .inv .inside)) (drawn-of (z .pre .1)) .low (omega arith)) (omega arith) (omega (arith, o .inv .inside, o .inv .long)) (omega arith)
 
 loop-again : tie.Need-loop-again Inv-loop μ-loop
 loop-again c =
     let z = c .before .before .before .before .before .before .before .before .before .before .before .before .before .before .before in
-    let w = laws-of (sought-of (z .pre .1 .0)) (z .args .kind) (z .args .mark) (z .args .labels .now) (z .args .parts .now) in
-    descend w (c .before .before .before .loop .inv) (c .before .before .seek .ensures (z .args .kind) (z .args .labels .now) (z .args .parts .now) (of-kind (c .before .before .before .before .before .before .base-of .ensures .0) (c .before .before .before .loop .inv .inside)) (drawn-of (z .pre .1 .0))) (omega arith) (omega (arith, c .before .before .before .before .before .before .before .corners-of .ensures .0))
+    let w = laws-of (sought-of (z .pre .1)) (z .args .kind) (z .args .mark) (z .args .labels .now) (z .args .parts .now) in
+    descend w (c .before .before .before .loop .inv) (c .before .before .seek .ensures (z .args .kind) (z .args .labels .now) (z .args .parts .now) (of-kind (c .before .before .before .before .before .before .base-of .ensures .0) (c .before .before .before .loop .inv .inside)) (drawn-of (z .pre .1))) (omega arith) (omega (arith, c .before .before .before .before .before .before .before .corners-of .ensures .0))
 
 tested-requires : tie.Need-tested-requires Inv-loop μ-loop
 tested-requires c κs =
     let z = c .before .before .before .before .before .before .before .before .before .before .before .before .before .before .before in
-    let h = z .pre .1 .0 in
-    rw (h .counted) (record { close = h .close; counted = h .counted; few = h .few; indexed = h .indexed; parted = z .pre .1 .1 })
+    rw (z .pre .1 .arrays .counted) (z .pre .1 .arrays)
 
 returns : tie.Need-returns Inv-loop μ-loop
 returns c =
     let z = c .before .before .before .before .before .before .before .before .before .before .before .before .before .before .before .before .before in
-    let w = laws-of (sought-of (z .pre .1 .0)) (z .args .kind) (z .args .mark) (z .args .labels .now) (z .args .parts .now) in
+    let w = laws-of (sought-of (z .pre .1)) (z .args .kind) (z .args .mark) (z .args .labels .now) (z .args .parts .now) in
     let l = c .before .tested .ensures in (
-      rw (c .if3 .taken, l .same) (result w (c .before .before .before .before .before .loop .inv) (c .before .before .before .before .seek .ensures (z .args .kind) (z .args .labels .now) (z .args .parts .now) (of-kind (c .before .before .before .before .before .before .before .before .base-of .ensures .0) (c .before .before .before .before .before .loop .inv .inside)) (drawn-of (z .pre .1 .0))) (omega arith) (omega (arith, c .before .before .before .before .before .before .before .before .before .corners-of .ensures .0)) (sym (l .is) ∙ c .if3 .taken)),
+      rw (c .if3 .taken, l .same) (result w (c .before .before .before .before .before .loop .inv) (c .before .before .before .before .seek .ensures (z .args .kind) (z .args .labels .now) (z .args .parts .now) (of-kind (c .before .before .before .before .before .before .before .before .base-of .ensures .0) (c .before .before .before .before .before .loop .inv .inside)) (drawn-of (z .pre .1))) (omega arith) (omega (arith, c .before .before .before .before .before .before .before .before .before .corners-of .ensures .0)) (sym (l .is) ∙ c .if3 .taken)),
       λ y. rw (l .same) (l .tets y),
     )
 
 add-lo-2 : tie.Need-add-lo-2 Inv-loop μ-loop
-add-lo-2 c = let z = c .before .before .before .before .before .before .before .before .before .before .before .before .before .before .before .before .before in omega (arith, z .pre .1 .0 .few)
+add-lo-2 c = let z = c .before .before .before .before .before .before .before .before .before .before .before .before .before .before .before .before .before in omega (arith, z .pre .1 .arrays .few)
 
 loop-less-2 : tie.Need-loop-less-2 Inv-loop μ-loop
 loop-less-2 c =
     let z = c .before .before .before .before .before .before .before .before .before .before .before .before .before .before .before .before .before in
     let o = c .before .before .before .before .before .loop in
     let s = c .before .before .before .before .seek in
-    less-reject (z .args .n) (c .before .before .before .before .before .before .before .before .before .corners-of .result) (o .t) (o .d) (o .lo) (s .result) (s .ensures (z .args .kind) (z .args .labels .now) (z .args .parts .now) (of-kind (c .before .before .before .before .before .before .before .before .base-of .ensures .0) (o .inv .inside)) (drawn-of (z .pre .1 .0)) .low (omega arith)) (omega arith)
+    less-reject (z .args .n) (c .before .before .before .before .before .before .before .before .before .corners-of .result) (o .t) (o .d) (o .lo) (s .result) (s .ensures (z .args .kind) (z .args .labels .now) (z .args .parts .now) (of-kind (c .before .before .before .before .before .before .before .before .base-of .ensures .0) (o .inv .inside)) (drawn-of (z .pre .1)) .low (omega arith)) (omega arith)
 
 loop-again-2 : tie.Need-loop-again-2 Inv-loop μ-loop
 loop-again-2 c =
     let z = c .before .before .before .before .before .before .before .before .before .before .before .before .before .before .before .before .before in
-    let w = laws-of (sought-of (z .pre .1 .0)) (z .args .kind) (z .args .mark) (z .args .labels .now) (z .args .parts .now) in
-    reject w (c .before .before .before .before .before .loop .inv) (c .before .before .before .before .seek .ensures (z .args .kind) (z .args .labels .now) (z .args .parts .now) (of-kind (c .before .before .before .before .before .before .before .before .base-of .ensures .0) (c .before .before .before .before .before .loop .inv .inside)) (drawn-of (z .pre .1 .0))) (omega arith) (omega (arith, c .before .before .before .before .before .before .before .before .before .corners-of .ensures .0)) (sym (c .before .tested .ensures .is) ∙ c .if3 .left)
+    let w = laws-of (sought-of (z .pre .1)) (z .args .kind) (z .args .mark) (z .args .labels .now) (z .args .parts .now) in
+    reject w (c .before .before .before .before .before .loop .inv) (c .before .before .before .before .seek .ensures (z .args .kind) (z .args .labels .now) (z .args .parts .now) (of-kind (c .before .before .before .before .before .before .before .before .base-of .ensures .0) (c .before .before .before .before .before .loop .inv .inside)) (drawn-of (z .pre .1))) (omega arith) (omega (arith, c .before .before .before .before .before .before .before .before .before .corners-of .ensures .0)) (sym (c .before .tested .ensures .is) ∙ c .if3 .left)
 
 none-requires : tie.Need-none-requires Inv-loop μ-loop
 none-requires c κs = search needs
@@ -146,8 +145,8 @@ none-requires c κs = search needs
 returns-2 : tie.Need-returns-2 Inv-loop μ-loop
 returns-2 c =
     let z = c .before .before .before .before .before .before .before .before .before .before .before .before .before .before .before .before in
-    let w = laws-of (sought-of (z .pre .1 .0)) (z .args .kind) (z .args .mark) (z .args .labels .now) (z .args .parts .now) in
-    (rw (c .none .ensures .0, c .none .ensures .1) (nothing w (c .before .before .before .before .loop .inv) (c .before .before .before .seek .ensures (z .args .kind) (z .args .labels .now) (z .args .parts .now) (of-kind (c .before .before .before .before .before .before .before .base-of .ensures .0) (c .before .before .before .before .loop .inv .inside)) (drawn-of (z .pre .1 .0))) (omega arith) (omega arith)), λ y. absurd (true≢false (sym y ∙ c .none .ensures .0)))
+    let w = laws-of (sought-of (z .pre .1)) (z .args .kind) (z .args .mark) (z .args .labels .now) (z .args .parts .now) in
+    (rw (c .none .ensures .0, c .none .ensures .1) (nothing w (c .before .before .before .before .loop .inv) (c .before .before .before .seek .ensures (z .args .kind) (z .args .labels .now) (z .args .parts .now) (of-kind (c .before .before .before .before .before .before .before .base-of .ensures .0) (c .before .before .before .before .loop .inv .inside)) (drawn-of (z .pre .1))) (omega arith) (omega arith)), λ y. absurd (true≢false (sym y ∙ c .none .ensures .0)))
 
 sub-d : tie.Need-sub-d Inv-loop μ-loop
 sub-d c = omega arith
@@ -173,8 +172,8 @@ loop-less-3 c =
 loop-again-3 : tie.Need-loop-again-3 Inv-loop μ-loop
 loop-again-3 c =
     let z = c .before .before .before .before .before .before .before .before .before .before .before .before .before .before .before .before in
-    let w = laws-of (sought-of (z .pre .1 .0)) (z .args .kind) (z .args .mark) (z .args .labels .now) (z .args .parts .now) in
-    rw (c .wide2 .ensures .0) (carry w (c .before .before .before .before .loop .inv) (c .before .before .before .seek .ensures (z .args .kind) (z .args .labels .now) (z .args .parts .now) (of-kind (c .before .before .before .before .before .before .before .base-of .ensures .0) (c .before .before .before .before .loop .inv .inside)) (drawn-of (z .pre .1 .0))) (omega arith) (omega arith))
+    let w = laws-of (sought-of (z .pre .1)) (z .args .kind) (z .args .mark) (z .args .labels .now) (z .args .parts .now) in
+    rw (c .wide2 .ensures .0) (carry w (c .before .before .before .before .loop .inv) (c .before .before .before .seek .ensures (z .args .kind) (z .args .labels .now) (z .args .parts .now) (of-kind (c .before .before .before .before .before .before .before .base-of .ensures .0) (c .before .before .before .before .loop .inv .inside)) (drawn-of (z .pre .1))) (omega arith) (omega arith))
 
 pub next-spec : {M : Type 1} → statement M
 next-spec =

@@ -1,4 +1,5 @@
--- `space::determinant` meets its contract. Each number is handed on by its bits, and comes back from them since it is small. Assumes nothing.
+-- `space::determinant` meets its contract. Each number is handed on by its bits,
+-- and comes back from them since it is small. Assumes nothing.
 use mathlib.Core.Path.{_≡_, _∙_}
 use lib.IntN.{ℤ, _-ℤ_, _*ℤ_}
 use mir.Syntax.{w64}
