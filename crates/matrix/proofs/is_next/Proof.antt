@@ -1,15 +1,20 @@
 use borrow.Author.Tests.{eq-eqb, ne-eqb}
 use Rattle.matrix.specs.Matrix.{isJoined}
-use native.Mathlib.Omega.{arith}
 use borrow.Author.Needs.{needs}
 use Rattle.matrix.proofs.is_next.Statement.{statement}
 use Rattle.matrix.proofs.is_next.Tie as tie
 
 returns : tie.Need-returns
-returns c = rw (eq-eqb (c .before .args .u) (c .before .args .v) (omega (arith, c .if1 .taken)))
+returns c = rw (eq-eqb _ _ (c .if1 .taken))
+
+cast-result : tie.Need-cast-result
+cast-result c = search needs
 
 mul-result : tie.Need-mul-result
 mul-result c = search needs
+
+cast-result-2 : tie.Need-cast-result-2
+cast-result-2 c = search needs
 
 add-result : tie.Need-add-result
 add-result c = search needs
@@ -19,7 +24,9 @@ element-copy-out-result c = search needs
 
 returns-2 : tie.Need-returns-2
 unfolding isJoined
-returns-2 c = rw (ne-eqb (c .before .before .args .u) (c .before .before .args .v) (λ e. omega (arith, e, c .before .if1 .left)))
+returns-2 c = rw (ne-eqb _ _ (c .before .before .before .if1 .left))
 
 pub is-next-spec : {M : Type 1} → statement M
-is-next-spec = tie.close (tie.spec returns mul-result add-result element-copy-out-result returns-2)
+is-next-spec =
+    tie.close
+    (tie.spec returns cast-result mul-result cast-result-2 add-result element-copy-out-result returns-2)
