@@ -1,4 +1,5 @@
 // The neighbour table of a mesh, from the vertex numbers of its tetrahedra, written into a lent slice.
+use around::Row;
 use matrix::is_blank;
 use matrix::is_next;
 use matrix::join_all;
@@ -16,12 +17,6 @@ ghost use Rattle.neighbours.specs.Table.{rowOf, rowsOf, offsets, tableIn
 ghost use Rattle.neighbours.specs.Grown.{Grown, partOf, Few};
 ghost use Rattle.neighbours.specs.Reading.{rowIn, Rowed};
 ghost use Rattle.matrix.specs.Matrix.{isJoined, Empty};
-
-// A row of the table: where it starts, and how many entries it has.
-pub struct Row {
-    pub from: usize,
-    pub size: usize,
-}
 
 fn wide(x: u16) -> usize
     ensures { λ r. ⌜ (r ≡ x) × (r < 65536) ⌝ }
