@@ -35,9 +35,9 @@ fn put_part(m: &[u8; 262144], u: Vertex, v: usize, k: usize, rows: &mut [u16], f
     let mut at = from;
     let mut i = 0;
     while i < k {
-        let w = (v + i) as u16;
-        rows[at] = w;
-        if is_next(m, u, Vertex(w)) {
+        let w = v + i;
+        rows[at] = w as u16;
+        if is_next(m, u, w) {
             at += 1;
         }
         i += 1;

@@ -26,8 +26,8 @@ loop-holds c =
 add-w : tie.Need-add-w Inv-loop μ-loop
 add-w c = search needs
 
-cast-w : tie.Need-cast-w Inv-loop μ-loop
-cast-w c = search needs
+cast-rows : tie.Need-cast-rows Inv-loop μ-loop
+cast-rows c = search needs
 
 mul-rows : tie.Need-mul-rows Inv-loop μ-loop
 mul-rows c = search needs
@@ -75,7 +75,7 @@ put-part-spec =
     μ-loop
     loop-holds
     add-w
-    cast-w
+    cast-rows
     mul-rows
     slice-write-rows
     is-next-requires
