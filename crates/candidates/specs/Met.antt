@@ -6,7 +6,7 @@ use mathlib.Core.Logic.{_⊎_}
 use mathlib.Core.Bool.{Bool, true}
 use mathlib.Core.List.{List}
 use lib.ListN.{length, getD}
-use Rattle.neighbours.specs.declared.Row.{Row}
+use Rattle.around.specs.declared.Row.{Row}
 use Rattle.neighbours.specs.Reading.{entriesOf}
 use Rattle.levels.specs.Levels.{lesser}
 use Rattle.candidates.specs.declared.Rows.{Rows}

@@ -1,13 +1,13 @@
 // The next candidate at a place: the first vertex that stands in the rows of two corners joined to it and with which
 // the tuple passes there.
 // x is the row of a place in the tables of the levels.
+use around::Row;
 use levels::Place;
 use levels::also_of;
 use levels::lesser_of;
 use levels::third_of;
 use levels::tries;
 use levels::wide;
-use neighbours::Row;
 use reaching::fewer;
 use space::Vertex;
 ghost use mathlib.Core.Path.{_≡_};

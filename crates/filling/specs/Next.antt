@@ -38,7 +38,7 @@ pub record Next (b : ℕ → Bool) (ls c : List ℕ) (lo hi k : ℕ) (out : List
 
 -- the four vertices left out
 abbrev pub leftOut : Crowd → List ℕ
-leftOut w = w .a ∷ w .b ∷ w .d ∷ w .e ∷ []
+leftOut w = w .a .0 ∷ w .b .0 ∷ w .d .0 ∷ w .e .0 ∷ []
 
 -- no tetrahedron that passes b has all its vertices among those left out
 pub record Aside (b : ℕ → Bool) (ls out : List ℕ) : Type 0 where

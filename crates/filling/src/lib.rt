@@ -79,10 +79,10 @@ fn least_in(labels: &[u16], row: &[u16], s: Span, m: &[u8; 512], c: &[u16], quad
 
 // The corners of one quadrilateral of a cell, and how many tetrahedra they have.
 struct Crowd {
-    a: u16,
-    b: u16,
-    d: u16,
-    e: u16,
+    a: Vertex,
+    b: Vertex,
+    d: Vertex,
+    e: Vertex,
     size: usize,
 }
 
@@ -114,10 +114,10 @@ fn crowd_at(
     let z = size_of(labels, n, offsets, entries, Vertex(q[2]));
     let w = size_of(labels, n, offsets, entries, Vertex(q[3]));
     Crowd {
-        a: q[0],
-        b: q[1],
-        d: q[2],
-        e: q[3],
+        a: Vertex(q[0]),
+        b: Vertex(q[1]),
+        d: Vertex(q[2]),
+        e: Vertex(q[3]),
         size: x + y + z + w,
     }
 }
@@ -136,10 +136,10 @@ fn crowd_of(
     ensures { λ r. ⌜ Aside (owns (now (labels .entry)) (fours (now (quads .entry))) (now (c .entry))) (now (labels .entry)) (leftOut r) ⌝ }
 {
     let mut w = Crowd {
-        a: 65535,
-        b: 65535,
-        d: 65535,
-        e: 65535,
+        a: Vertex(65535),
+        b: Vertex(65535),
+        d: Vertex(65535),
+        e: Vertex(65535),
         size: 0,
     };
     let m = quads.len() / 4;
@@ -159,16 +159,16 @@ fn is_crowded(w: Crowd, v: Vertex) -> bool
     ensures { λ r. ⌜ r ≡ isIn (v .0) (leftOut w) ⌝ }
 {
     let v = v.0;
-    if v == w.a {
+    if v == w.a.0 {
         return true;
     }
-    if v == w.b {
+    if v == w.b.0 {
         return true;
     }
-    if v == w.d {
+    if v == w.d.0 {
         return true;
     }
-    v == w.e
+    v == w.e.0
 }
 
 // The tetrahedra around a vertex, as they stand in the index.

@@ -2,34 +2,38 @@
 use space::Tet;
 use space::Vertex;
 use space::tet_has;
+ghost use mathlib.Core.Path.{_≡_};
 ghost use Prim.Native.Nat.{_/_, _<_, _≤_};
 ghost use lib.ListN.{length};
+ghost use Rattle.glance.specs.Guess.{noPair, loneOf, lesserFirst, leastFirst, acrossOf, pairOf, pyramidOf};
 
 // Two tetrahedra with a facet in common, where there is one: its vertices x, y, z, and u and w on either side.
 pub struct Pair {
     pub some: bool,
-    pub u: u16,
-    pub w: u16,
-    pub x: u16,
-    pub y: u16,
-    pub z: u16,
+    pub u: Vertex,
+    pub w: Vertex,
+    pub x: Vertex,
+    pub y: Vertex,
+    pub z: Vertex,
 }
 
-fn none() -> Pair {
+fn none() -> Pair
+    ensures { λ r. ⌜ r ≡ noPair ⌝ }
+{
     Pair {
         some: false,
-        u: 0,
-        w: 0,
-        x: 0,
-        y: 0,
-        z: 0,
+        u: Vertex(0),
+        w: Vertex(0),
+        x: Vertex(0),
+        y: Vertex(0),
+        z: Vertex(0),
     }
 }
 
 // The place of the vertex of e that m does not have; 4 where there is not just one.
 fn lone(labels: &[u16], e: Tet, m: Tet) -> usize
     requires { ⌜ (e .0 < length (now labels) / 4) × (m .0 < length (now labels) / 4) ⌝ }
-    ensures { λ r. ⌜ r ≤ 4 ⌝ }
+    ensures { λ r. ⌜ (r ≡ loneOf (now (labels .entry)) (e .0) (m .0)) × (r ≤ 4) ⌝ }
 {
     let at = 4 * (e.0 as usize);
     let mut found = 4;
@@ -47,29 +51,34 @@ fn lone(labels: &[u16], e: Tet, m: Tet) -> usize
 }
 
 // The base with the lesser of a and c first, and the apex.
-fn lesser_first(a: u16, b: u16, c: u16, d: u16, apex: u16) -> [u16; 8] {
-    if c < a {
-        return [c, d, a, b, apex, 0, 0, 0];
+fn lesser_first(a: Vertex, b: Vertex, c: Vertex, d: Vertex, apex: Vertex) -> [u16; 8]
+    ensures { λ r. ⌜ r ≡ lesserFirst (a .0) (b .0) (c .0) (d .0) (apex .0) ⌝ }
+{
+    if c.0 < a.0 {
+        return [c.0, d.0, a.0, b.0, apex.0, 0, 0, 0];
     }
-    [a, b, c, d, apex, 0, 0, 0]
+    [a.0, b.0, c.0, d.0, apex.0, 0, 0, 0]
 }
 
 // The base with its least corner first, and the apex.
-fn least_first(a: u16, b: u16, c: u16, d: u16, apex: u16) -> [u16; 8] {
+fn least_first(a: Vertex, b: Vertex, c: Vertex, d: Vertex, apex: Vertex) -> [u16; 8]
+    ensures { λ r. ⌜ r ≡ leastFirst (a .0) (b .0) (c .0) (d .0) (apex .0) ⌝ }
+{
     let s = lesser_first(a, b, c, d, apex);
     let t = lesser_first(b, c, d, a, apex);
     if s[0] < t[0] { s } else { t }
 }
 
 // The facet of e that lies opposite its place i, and w behind it. Turned by one place, four vertices are mirrored: at places 1 and 3 two are exchanged.
-fn across(labels: &[u16], e: Tet, i: usize, w: u16) -> Pair
+fn across(labels: &[u16], e: Tet, i: usize, w: Vertex) -> Pair
     requires { ⌜ (e .0 < length (now labels) / 4) × (i < 4) ⌝ }
+    ensures { λ r. ⌜ r ≡ acrossOf (now (labels .entry)) (e .0) i w ⌝ }
 {
     let at = 4 * (e.0 as usize);
-    let u = labels[at + i];
-    let x = labels[at + (i + 1) % 4];
-    let y = labels[at + (i + 2) % 4];
-    let z = labels[at + (i + 3) % 4];
+    let u = Vertex(labels[at + i]);
+    let x = Vertex(labels[at + (i + 1) % 4]);
+    let y = Vertex(labels[at + (i + 2) % 4]);
+    let z = Vertex(labels[at + (i + 3) % 4]);
     let some = true;
     if i % 2 == 0 {
         return Pair {
@@ -94,6 +103,7 @@ fn across(labels: &[u16], e: Tet, i: usize, w: u16) -> Pair
 // The pair of e and m, where they have a facet in common.
 pub fn pair_of(labels: &[u16], e: Tet, m: Tet) -> Pair
     requires { ⌜ (e .0 < length (now labels) / 4) × (m .0 < length (now labels) / 4) ⌝ }
+    ensures { λ r. ⌜ r ≡ pairOf (now (labels .entry)) (e .0) (m .0) ⌝ }
 {
     let i = lone(labels, e, m);
     if i == 4 {
@@ -103,11 +113,13 @@ pub fn pair_of(labels: &[u16], e: Tet, m: Tet) -> Pair
     if j == 4 {
         return none();
     }
-    across(labels, e, i, labels[4 * (m.0 as usize) + j])
+    across(labels, e, i, Vertex(labels[4 * (m.0 as usize) + j]))
 }
 
 // A pyramid of the pair: each of the facet's vertices may be the apex, z where k is 0, x where it is 1, and else y.
-pub fn pyramid(p: Pair, k: usize) -> [u16; 8] {
+pub fn pyramid(p: Pair, k: usize) -> [u16; 8]
+    ensures { λ r. ⌜ r ≡ pyramidOf p k ⌝ }
+{
     if k == 0 {
         return least_first(p.u, p.x, p.w, p.y, p.z);
     }

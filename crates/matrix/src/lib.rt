@@ -1,4 +1,5 @@
 // Which vertices stand together in a tetrahedron: a matrix of 512 times 512 places, from the vertex numbers of the tetrahedra.
+use space::Vertex;
 ghost use mathlib.Core.Path.{_≡_};
 ghost use mathlib.Core.Bool.{true};
 ghost use Prim.Native.Nat.{ℕ, _+_, _/_, _<_, _≤_};
@@ -7,16 +8,16 @@ ghost use Rattle.matrix.specs.Matrix.{joinedBy, isJoined, Joins, point, 
 
 // ---- stores
 
-fn join(m: &mut [u8; 262144], u: usize, v: usize)
-    requires { ⌜ (length (now m) ≡ 262144) × (u < 512) × (v < 512) ⌝ }
-    ensures { λ r. ⌜ Joins (now (m .entry)) (now (m .exit)) (point u v) ⌝ }
+fn join(m: &mut [u8; 262144], u: Vertex, v: Vertex)
+    requires { ⌜ (length (now m) ≡ 262144) × (u .0 < 512) × (v .0 < 512) ⌝ }
+    ensures { λ r. ⌜ Joins (now (m .entry)) (now (m .exit)) (point (u .0) (v .0)) ⌝ }
 {
-    m[u * 512 + v] = 1;
+    m[(u.0 as usize) * 512 + (v.0 as usize)] = 1;
 }
 
-fn join_row(m: &mut [u8; 262144], u: usize, a: usize, b: usize, c: usize, d: usize)
-    requires { ⌜ (length (now m) ≡ 262144) × (u < 512) × ((a < 512) × (b < 512)) × ((c < 512) × (d < 512)) ⌝ }
-    ensures { λ r. ⌜ Joins (now (m .entry)) (now (m .exit)) (line u a b c d) ⌝ }
+fn join_row(m: &mut [u8; 262144], u: Vertex, a: Vertex, b: Vertex, c: Vertex, d: Vertex)
+    requires { ⌜ (length (now m) ≡ 262144) × (u .0 < 512) × ((a .0 < 512) × (b .0 < 512)) × ((c .0 < 512) × (d .0 < 512)) ⌝ }
+    ensures { λ r. ⌜ Joins (now (m .entry)) (now (m .exit)) (line (u .0) (a .0) (b .0) (c .0) (d .0)) ⌝ }
 {
     join(m, u, a);
     join(m, u, b);
@@ -24,9 +25,9 @@ fn join_row(m: &mut [u8; 262144], u: usize, a: usize, b: usize, c: usize, d: usi
     join(m, u, d);
 }
 
-fn join_tet(m: &mut [u8; 262144], a: usize, b: usize, c: usize, d: usize)
-    requires { ⌜ (length (now m) ≡ 262144) × ((a < 512) × (b < 512)) × ((c < 512) × (d < 512)) ⌝ }
-    ensures { λ r. ⌜ Joins (now (m .entry)) (now (m .exit)) (square a b c d) ⌝ }
+fn join_tet(m: &mut [u8; 262144], a: Vertex, b: Vertex, c: Vertex, d: Vertex)
+    requires { ⌜ (length (now m) ≡ 262144) × ((a .0 < 512) × (b .0 < 512)) × ((c .0 < 512) × (d .0 < 512)) ⌝ }
+    ensures { λ r. ⌜ Joins (now (m .entry)) (now (m .exit)) (square (a .0) (b .0) (c .0) (d .0)) ⌝ }
 {
     join_row(m, a, a, b, c, d);
     join_row(m, b, a, b, c, d);
@@ -34,17 +35,11 @@ fn join_tet(m: &mut [u8; 262144], a: usize, b: usize, c: usize, d: usize)
     join_row(m, d, a, b, c, d);
 }
 
-fn label(labels: &[u16], k: usize) -> usize
+fn label(labels: &[u16], k: usize) -> Vertex
     requires { ⌜ k < length (now labels) ⌝ }
-    ensures { λ r. ⌜ r ≡ getD (now (labels .entry)) k 0 ⌝ }
+    ensures { λ r. ⌜ r .0 ≡ getD (now (labels .entry)) k 0 ⌝ }
 {
-    wide(labels[k])
-}
-
-fn wide(x: u16) -> usize
-    ensures { λ r. ⌜ (r ≡ x) × (r < 65536) ⌝ }
-{
-    x as usize
+    Vertex(labels[k])
 }
 
 // Joins every two vertices of every tetrahedron.
@@ -67,23 +62,25 @@ pub fn join_all(m: &mut [u8; 262144], labels: &[u16])
 
 // ---- rows
 
-// The two are joined, and differ.
-pub fn is_next(m: &[u8; 262144], u: usize, v: usize) -> bool
-    requires { ⌜ (u < 512) × (v < 512) ⌝ }
-    ensures { λ r. ⌜ r ≡ nextTo (isJoined (now (m .entry))) u v ⌝ }
+// The two are joined, and differ. v stays plain: it runs along a row, and to narrow it costs an instruction a place.
+pub fn is_next(m: &[u8; 262144], u: Vertex, v: usize) -> bool
+    requires { ⌜ (u .0 < 512) × (v < 512) ⌝ }
+    ensures { λ r. ⌜ r ≡ nextTo (isJoined (now (m .entry))) (u .0) v ⌝ }
 {
-    if u == v {
+    let k = u.0 as usize;
+    if k == v {
         return false;
     }
-    m[u * 512 + v] != 0
+    m[k * 512 + v] != 0
 }
 
 // Whether row u joins none of the 16 vertices from v on. No place is tested alone, so that the compiler reads all 16 at once.
-pub fn is_blank(m: &[u8; 262144], u: usize, v: usize) -> bool
-    requires { ⌜ (u < 512) × (v + 16 ≤ 512) ⌝ }
-    ensures { λ r. ⌜ (r ≡ true → Blank (now (m .entry)) u v 16) ⌝ }
+pub fn is_blank(m: &[u8; 262144], u: Vertex, v: usize) -> bool
+    requires { ⌜ (u .0 < 512) × (v + 16 ≤ 512) ⌝ }
+    ensures { λ r. ⌜ (r ≡ true → Blank (now (m .entry)) (u .0) v 16) ⌝ }
 {
-    let from = u * 512 + v;
+    let k = u.0 as usize;
+    let from = k * 512 + v;
     let mut x = 0;
     let mut i = 0;
     while i < 16 {

@@ -14,7 +14,7 @@ use Rattle.base.specs.Lists.{spread, from, upTo}
 use Rattle.base.proofs.Runs.{from-add, spread-append, map-append, place-of, kept-rises}
 use Rattle.base.proofs.Members.{keep-has, from-has}
 use Rattle.around.specs.Index.{togetherIn}
-use Rattle.neighbours.specs.declared.Row.{Row}
+use Rattle.around.specs.declared.Row.{Row}
 use Rattle.neighbours.specs.Table.{rowOf, rowsOf, offsets, tableBy, neighboursIn, tableIn}
 use Rattle.matrix.specs.Matrix.{nextTo}
 use Rattle.neighbours.specs.Reading.{Tabled, Rowed, RowOf, rowIn, entriesOf, InRow}

@@ -6,7 +6,7 @@ use mathlib.Core.Bool.{cond}
 use mathlib.Core.List.{List, _++_}
 use lib.Dec.{ltb}
 use lib.ListN.{length, getD, take, drop}
-use Rattle.neighbours.specs.declared.Row.{Row}
+use Rattle.around.specs.declared.Row.{Row}
 use Rattle.neighbours.specs.Table.{neighboursIn, tableIn}
 
 -- the slice begins with the neighbour table of n vertices

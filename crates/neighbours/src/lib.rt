@@ -1,4 +1,5 @@
 // The neighbour table of a mesh, from the vertex numbers of its tetrahedra, written into a lent slice.
+use around::Row;
 use matrix::is_blank;
 use matrix::is_next;
 use matrix::join_all;
@@ -17,12 +18,6 @@ ghost use Rattle.neighbours.specs.Grown.{Grown, partOf, Few};
 ghost use Rattle.neighbours.specs.Reading.{rowIn, Rowed};
 ghost use Rattle.matrix.specs.Matrix.{isJoined, Empty};
 
-// A row of the table: where it starts, and how many entries it has.
-pub struct Row {
-    pub from: usize,
-    pub size: usize,
-}
-
 fn wide(x: u16) -> usize
     ensures { λ r. ⌜ (r ≡ x) × (r < 65536) ⌝ }
 {
@@ -33,9 +28,9 @@ fn wide(x: u16) -> usize
 
 // Writes from `from` on those of the k vertices from v on that are next to u; the answer is where the next entry goes.
 // Every vertex is written, and counted where it is next to u: a branch would be slower. What stands behind the answer is not told.
-fn put_part(m: &[u8; 262144], u: usize, v: usize, k: usize, rows: &mut [u16], from: usize) -> usize
-    requires { ⌜ ((u < 512) × (v + k ≤ 512)) × (from + length (partOf (isJoined (now m)) u v k) < length (now rows)) ⌝ }
-    ensures { λ r. ⌜ Grown from r (partOf (isJoined (now (m .entry))) u v k) (now (rows .entry)) (now (rows .exit)) ⌝ }
+fn put_part(m: &[u8; 262144], u: Vertex, v: usize, k: usize, rows: &mut [u16], from: usize) -> usize
+    requires { ⌜ ((u .0 < 512) × (v + k ≤ 512)) × (from + length (partOf (isJoined (now m)) (u .0) v k) < length (now rows)) ⌝ }
+    ensures { λ r. ⌜ Grown from r (partOf (isJoined (now (m .entry))) (u .0) v k) (now (rows .entry)) (now (rows .exit)) ⌝ }
 {
     let mut at = from;
     let mut i = 0;
@@ -51,9 +46,9 @@ fn put_part(m: &[u8; 262144], u: usize, v: usize, k: usize, rows: &mut [u16], fr
 }
 
 // The same for 16 vertices at once: most blocks of a row have none.
-fn put_block(m: &[u8; 262144], u: usize, v: usize, rows: &mut [u16], from: usize) -> usize
-    requires { ⌜ ((u < 512) × (v + 16 ≤ 512)) × (from + length (partOf (isJoined (now m)) u v 16) < length (now rows)) ⌝ }
-    ensures { λ r. ⌜ Grown from r (partOf (isJoined (now (m .entry))) u v 16) (now (rows .entry)) (now (rows .exit)) ⌝ }
+fn put_block(m: &[u8; 262144], u: Vertex, v: usize, rows: &mut [u16], from: usize) -> usize
+    requires { ⌜ ((u .0 < 512) × (v + 16 ≤ 512)) × (from + length (partOf (isJoined (now m)) (u .0) v 16) < length (now rows)) ⌝ }
+    ensures { λ r. ⌜ Grown from r (partOf (isJoined (now (m .entry))) (u .0) v 16) (now (rows .entry)) (now (rows .exit)) ⌝ }
 {
     if is_blank(m, u, v) {
         return from;
@@ -62,9 +57,9 @@ fn put_block(m: &[u8; 262144], u: usize, v: usize, rows: &mut [u16], from: usize
 }
 
 // Writes one row from `from` on: whole blocks, then the vertices that are left.
-fn put_row(m: &[u8; 262144], n: usize, u: usize, rows: &mut [u16], from: usize) -> usize
-    requires { ⌜ ((u < 512) × (n ≤ 512)) × (from + length (rowOf (isJoined (now m)) n u) < length (now rows)) ⌝ }
-    ensures { λ r. ⌜ Grown from r (rowOf (isJoined (now (m .entry))) n u) (now (rows .entry)) (now (rows .exit)) ⌝ }
+fn put_row(m: &[u8; 262144], n: usize, u: Vertex, rows: &mut [u16], from: usize) -> usize
+    requires { ⌜ ((u .0 < 512) × (n ≤ 512)) × (from + length (rowOf (isJoined (now m)) n (u .0)) < length (now rows)) ⌝ }
+    ensures { λ r. ⌜ Grown from r (rowOf (isJoined (now (m .entry))) n (u .0)) (now (rows .entry)) (now (rows .exit)) ⌝ }
 {
     let mut at = from;
     let mut v = 0;
@@ -85,7 +80,7 @@ fn put_rows(m: &[u8; 262144], n: usize, starts: &mut [u16], rows: &mut [u16]) ->
     let mut u = 0;
     while u < n {
         starts[u] = at as u16;
-        at = put_row(m, n, u, rows, at);
+        at = put_row(m, n, Vertex(u as u16), rows, at);
         u += 1;
     }
     starts[n] = at as u16;

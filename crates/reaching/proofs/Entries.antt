@@ -10,7 +10,7 @@ use borrow.Author.Tests.{eqb-false, not-true}
 use lib.Dec.{eqb}
 use lib.ListN.{length}
 use Rattle.base.proofs.Lists.{both-left, both-right}
-use Rattle.neighbours.specs.declared.Row.{Row}
+use Rattle.around.specs.declared.Row.{Row}
 use Rattle.neighbours.specs.Reading.{rowIn, Rowed, entriesOf, InRow}
 use Rattle.neighbours.proofs.Reading.{row-inside}
 use Rattle.reaching.specs.declared.Edge.{Edge}

@@ -10,7 +10,7 @@ use lib.Dec.{eqb, leb}
 use lib.ListN.{length, getD}
 use Rattle.space.specs.declared.Vertex.{Vertex}
 use Rattle.marks.specs.Marks.{places, noted}
-use Rattle.neighbours.specs.declared.Row.{Row}
+use Rattle.around.specs.declared.Row.{Row}
 use Rattle.neighbours.specs.Reading.{Rowed, rowIn, InRow}
 use Rattle.reaching.specs.declared.Edge.{Edge}
 

@@ -2,8 +2,8 @@
 // which vertices can be reached over an edge of it.
 // What is gone through is the row, in the neighbour table, of the one of two vertices that has fewer neighbours;
 // facets are told by their marks.
+use around::Row;
 use marks::is_noted;
-use neighbours::Row;
 use neighbours::row_of;
 use space::Vertex;
 ghost use mathlib.Core.Path.{_≡_};

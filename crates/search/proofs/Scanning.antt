@@ -17,7 +17,7 @@ use Rattle.base.proofs.Loop.{length-up}
 use Rattle.space.specs.Arrays.{pointAt, meshOf}
 use Rattle.around.specs.Index.{togetherIn}
 use Rattle.templates.specs.Tables.{templateOf}
-use Rattle.neighbours.specs.declared.Row.{Row}
+use Rattle.around.specs.declared.Row.{Row}
 use Rattle.neighbours.specs.Reading.{rowIn, entriesOf, InRow}
 use Rattle.neighbours.proofs.Reading.{tabled-rowed, row-of-in, entries-rise, entries-have}
 use Rattle.portions.specs.Tuples.{Agree, Skips}

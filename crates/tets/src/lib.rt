@@ -50,25 +50,25 @@ fn is_outside(n: usize, labels: &[u16], e: Tet) -> bool
 // ---- 6
 
 // Two of the four are one.
-fn has_equal(a: u16, b: u16, c: u16, d: u16) -> bool
-    ensures { λ r. ⌜ r ≡ not (distinct (a ∷ b ∷ c ∷ d ∷ [])) ⌝ }
+fn has_equal(a: Vertex, b: Vertex, c: Vertex, d: Vertex) -> bool
+    ensures { λ r. ⌜ r ≡ not (distinct (a .0 ∷ b .0 ∷ c .0 ∷ d .0 ∷ [])) ⌝ }
 {
-    if a == b {
+    if a.0 == b.0 {
         return true;
     }
-    if a == c {
+    if a.0 == c.0 {
         return true;
     }
-    if a == d {
+    if a.0 == d.0 {
         return true;
     }
-    if b == c {
+    if b.0 == c.0 {
         return true;
     }
-    if b == d {
+    if b.0 == d.0 {
         return true;
     }
-    if c == d {
+    if c.0 == d.0 {
         return true;
     }
     false
@@ -79,7 +79,7 @@ fn names_twice(labels: &[u16], e: Tet) -> bool
     ensures { λ r. ⌜ r ≡ twice (now (labels .entry)) (e .0) ⌝ }
 {
     let c = corners(labels, e);
-    has_equal(c[0], c[1], c[2], c[3])
+    has_equal(Vertex(c[0]), Vertex(c[1]), Vertex(c[2]), Vertex(c[3]))
 }
 
 // ---- 7

@@ -37,20 +37,20 @@ array-read-t16-5 c = search needs
 array-read-t28 : tie.Need-array-read-t28
 array-read-t28 c = search needs
 
-array-read-t31 : tie.Need-array-read-t31
-array-read-t31 c = search needs
+array-read-t32 : tie.Need-array-read-t32
+array-read-t32 c = search needs
 
-array-read-t34 : tie.Need-array-read-t34
-array-read-t34 c = search needs
+array-read-t36 : tie.Need-array-read-t36
+array-read-t36 c = search needs
 
-add-t35 : tie.Need-add-t35
-add-t35 c = search needs
+add-t38 : tie.Need-add-t38
+add-t38 c = search needs
 
-add-t36 : tie.Need-add-t36
-add-t36 c = search needs
+add-t39 : tie.Need-add-t39
+add-t39 c = search needs
 
-add-t37 : tie.Need-add-t37
-add-t37 c = search needs
+add-t40 : tie.Need-add-t40
+add-t40 c = search needs
 
 returns : tie.Need-returns
 returns c =
@@ -72,9 +72,9 @@ crowd-at-spec =
     size-of-requires-4
     array-read-t16-5
     array-read-t28
-    array-read-t31
-    array-read-t34
-    add-t35
-    add-t36
-    add-t37
+    array-read-t32
+    array-read-t36
+    add-t38
+    add-t39
+    add-t40
     returns)

@@ -25,7 +25,7 @@ crowd-at-requires : tie.Need-crowd-at-requires Inv-loop μ-loop
 crowd-at-requires c κs = (c .before .before .before .before .before .before .before .pre, omega arith)
 
 add-i : tie.Need-add-i Inv-loop μ-loop
-add-i c = omega arith
+add-i c = omega (arith, c .before .before .before .before .before .before .before .before .before .before .before .good .1 .1 .1 .1 .1 .0 .0)
 
 loop-less : tie.Need-loop-less Inv-loop μ-loop
 loop-less c = omega arith

@@ -43,10 +43,10 @@ loop-holds c =
     (refl, (a .0 .le, (a .0 .is, (found-gap (record { low = omega arith; found = record { count = refl; list = refl } }) (omega arith) (a .0), (search needs, reached-from (a .1) (omega arith))))))
 
 cast-t21 : tie.Need-cast-t21 Inv-loop μ-loop
-cast-t21 c = omega arith
+cast-t21 c = omega (arith, c .before .before .before .before .before .before .before .before .before .before .before .before .before .before .pre .labelled .few)
 
 push-requires : tie.Need-push-requires Inv-loop μ-loop
-push-requires c κs = omega arith
+push-requires c κs = omega (arith, c .before .before .before .before .before .before .before .before .before .before .before .before .before .before .pre .labelled .few)
 
 add-next : tie.Need-add-next Inv-loop μ-loop
 add-next c = omega (arith, c .before .before .before .before .before .before .before .before .before .before .before .before .before .before .before .pre .labelled .few)

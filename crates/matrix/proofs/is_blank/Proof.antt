@@ -10,10 +10,13 @@ use Rattle.matrix.proofs.is_blank.Statement.{statement}
 use Rattle.matrix.proofs.is_blank.Tie as tie
 
 abbrev Inv-loop : tie.InvT-loop
-Inv-loop m u v from x₀ i₀ x i = (i ≤ 16) × (x ≡ 0 → Blank m u v i)
+Inv-loop m v k from x₀ i₀ x i = (i ≤ 16) × (x ≡ 0 → Blank m k v i)
 
 abbrev μ-loop : tie.MeasureT-loop
-μ-loop m u v from x₀ i₀ x i = 16 - i
+μ-loop m v k from x₀ i₀ x i = 16 - i
+
+cast-k : tie.Need-cast-k Inv-loop μ-loop
+cast-k c = search needs
 
 mul-from : tie.Need-mul-from Inv-loop μ-loop
 mul-from c = search needs
@@ -38,9 +41,9 @@ loop-less c = search needs
 
 loop-again : tie.Need-loop-again Inv-loop μ-loop
 loop-again c =
-    let a = c .before .before .before .args in
+    let a = c .before .before .before .before .args in
     let l = c .before .before .loop in
-    (omega arith, blank-more (a .m .now) (a .u) (a .v) (l .i) (l .x) (l .inv .1))
+    (omega arith, blank-more (a .m .now) (a .u .0) (a .v) (l .i) (l .x) (l .inv .1))
 
 returns : tie.Need-returns Inv-loop μ-loop
 returns c h i k = c .before .loop .inv .1 (eqb-true (c .before .loop .x) 0 h) i (omega arith)
@@ -51,6 +54,7 @@ is-blank-spec =
     (tie.spec
     Inv-loop
     μ-loop
+    cast-k
     mul-from
     add-from
     loop-holds

@@ -11,7 +11,7 @@ is-blank-requires c κs = search needs
 returns : tie.Need-returns
 returns c =
     let a = c .before .before .before .args in
-    grown-none (a .from) _ (a .rows .now) (part-blank (isJoined (a .m .now)) (a .u) (a .v) 16 (c .before .is-blank .ensures (c .if1 .taken)))
+    grown-none (a .from) _ (a .rows .now) (part-blank (isJoined (a .m .now)) (a .u .0) (a .v) 16 (c .before .is-blank .ensures (c .if1 .taken)))
 
 put-part-requires : tie.Need-put-part-requires
 put-part-requires c κs = search needs

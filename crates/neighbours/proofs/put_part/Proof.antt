@@ -13,7 +13,7 @@ use Rattle.neighbours.proofs.put_part.Statement.{statement}
 use Rattle.neighbours.proofs.put_part.Tie as tie
 
 abbrev Inv-loop : tie.InvT-loop
-Inv-loop m u v k rows₀ from at₀ i₀ rows at i = (i ≤ k) × (at < length rows₀) × Grown from at (partOf (isJoined m) u v i) rows₀ rows
+Inv-loop m u v k rows₀ from at₀ i₀ rows at i = (i ≤ k) × (at < length rows₀) × Grown from at (partOf (isJoined m) (u .0) v i) rows₀ rows
 
 abbrev μ-loop : tie.MeasureT-loop
 μ-loop m u v k rows₀ from at₀ i₀ rows at i = k - i
@@ -21,7 +21,7 @@ abbrev μ-loop : tie.MeasureT-loop
 loop-holds : tie.Need-loop-holds Inv-loop μ-loop
 loop-holds c =
     let a = c .before .args in
-    (omega arith, omega arith, grown-none (a .from) _ (a .rows .now) (part-none (isJoined (a .m .now)) (a .u) (a .v)))
+    (omega arith, omega arith, grown-none (a .from) _ (a .rows .now) (part-none (isJoined (a .m .now)) (a .u .0) (a .v)))
 
 add-w : tie.Need-add-w Inv-loop μ-loop
 add-w c = search needs
@@ -53,12 +53,12 @@ loop-again c =
     let l = c .before .before .before .loop in
     let f = isJoined (a .m .now) in
     let g = l .inv .2 in
-    let e = part-le f (a .u) (a .v) (l .i + 1) (a .k) (omega arith) in
+    let e = part-le f (a .u .0) (a .v) (l .i + 1) (a .k) (omega arith) in
     ⊎-elim
     (λ w.
-    let d = grown-set g (a .v + l .i) (l .inv .1) (part-yes f (a .u) (a .v) (l .i) (sym (c .before .is-next .ensures) ∙ w .0 .taken)) in
+    let d = grown-set g (a .v + l .i) (l .inv .1) (part-yes f (a .u .0) (a .v) (l .i) (sym (c .before .is-next .ensures) ∙ w .0 .taken)) in
     (omega arith, omega (arith, e, d .ends), rw (w .1) d))
-    (λ w. (omega arith, omega arith, rw (w .1) (grown-past g _ (part-no f (a .u) (a .v) (l .i) (sym (c .before .is-next .ensures) ∙ w .0 .left)))))
+    (λ w. (omega arith, omega arith, rw (w .1) (grown-past g _ (part-no f (a .u .0) (a .v) (l .i) (sym (c .before .is-next .ensures) ∙ w .0 .left)))))
     (c .if1 .came)
 
 same-length : tie.Need-same-length Inv-loop μ-loop

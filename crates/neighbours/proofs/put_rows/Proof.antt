@@ -40,6 +40,9 @@ mul-starts c = search needs
 slice-write-starts : tie.Need-slice-write-starts Inv-loop μ-loop
 slice-write-starts c = omega (arith, c .before .loop .inv .1 .same)
 
+cast-t8 : tie.Need-cast-t8 Inv-loop μ-loop
+cast-t8 c = search needs
+
 put-row-requires : tie.Need-put-row-requires Inv-loop μ-loop
 put-row-requires c κs =
     let s = c .before .before .before .before .before in
@@ -97,6 +100,7 @@ put-rows-spec =
     cast-starts
     mul-starts
     slice-write-starts
+    cast-t8
     put-row-requires
     add-u
     loop-less

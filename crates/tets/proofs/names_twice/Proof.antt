@@ -12,17 +12,17 @@ use Rattle.tets.proofs.names_twice.Tie as tie
 corners-requires : tie.Need-corners-requires
 corners-requires c κs = search needs
 
-array-read-has-equal : tie.Need-array-read-has-equal
-array-read-has-equal c = search needs
+array-read-t7 : tie.Need-array-read-t7
+array-read-t7 c = search needs
 
-array-read-has-equal-2 : tie.Need-array-read-has-equal-2
-array-read-has-equal-2 c = search needs
+array-read-t11 : tie.Need-array-read-t11
+array-read-t11 c = search needs
 
-array-read-has-equal-3 : tie.Need-array-read-has-equal-3
-array-read-has-equal-3 c = search needs
+array-read-t15 : tie.Need-array-read-t15
+array-read-t15 c = search needs
 
-array-read-has-equal-4 : tie.Need-array-read-has-equal-4
-array-read-has-equal-4 c = search needs
+array-read-t19 : tie.Need-array-read-t19
+array-read-t19 c = search needs
 
 has-equal-requires : tie.Need-has-equal-requires
 has-equal-requires c κs = search needs
@@ -36,9 +36,9 @@ names-twice-spec =
     tie.close
     (tie.spec
     corners-requires
-    array-read-has-equal
-    array-read-has-equal-2
-    array-read-has-equal-3
-    array-read-has-equal-4
+    array-read-t7
+    array-read-t11
+    array-read-t15
+    array-read-t19
     has-equal-requires
     returns)
