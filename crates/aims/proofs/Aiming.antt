@@ -3,7 +3,7 @@
 use Prim.Native.Nat.{ℕ}
 use mathlib.Core.Logic.{inl, inr, ⊎-elim}
 use mathlib.Core.Bool.{Bool}
-use Rattle.aims.specs.Aims.{Aims}
+use Rattle.aims.specs.between.Aims.{Aims}
 
 pub aims-of : {P Q : ℕ → Type 0} {x : ℕ} {some both : Bool} {o p : ℕ} → ((y : ℕ) → P y → Q y) → Aims Q x some both o p → Aims P x some both o p
 aims-of f a = record {

@@ -1,1 +1,1 @@
-pub mod Aims
+pub mod between

@@ -6,15 +6,15 @@ use linking::Linking;
 use linking::fuller;
 use linking::fullest;
 use linking::sole;
-use neighbours::row_of;
-use reaching::Edge;
+use neighbours::neighbour_row;
+use reaching::FaceEdge;
 use space::Vertex;
 ghost use mathlib.Core.Path.{_≡_};
 ghost use mathlib.Core.Logic.{_⊎_};
-ghost use Rattle.neighbours.specs.Reading.{Rowed};
-ghost use Rattle.reaching.specs.Reaching.{Lent};
-ghost use Rattle.linking.specs.Covers.{Covers};
-ghost use Rattle.aims.specs.Aims.{LinksFirst, Aims};
+ghost use Rattle.neighbours.specs.between.Reading.{Rowed};
+ghost use Rattle.reaching.specs.between.Reaching.{Lent};
+ghost use Rattle.linking.specs.between.Met.{IsMet};
+ghost use Rattle.aims.specs.between.Aims.{LinksFirst, Aims};
 
 // A vertex with more neighbours than this is barred, and a place looks ahead where its rows are longer. That is a
 // matter of speed alone.
@@ -34,12 +34,12 @@ pub struct Aim {
 // face.
 fn aim_among(n: usize, table: &[u16], x: usize, q: Linking) -> Aim
     requires { ⌜ Rowed n (now table) × ((x ≡ 3) ⊎ (x ≡ 11)) ⌝ }
-    ensures { λ r. ⌜ Aims (Covers q) x (r .some) (r .both) (r .o .0) (r .p .0) ⌝ }
+    ensures { λ r. ⌜ Aims (IsMet q) x (r .some) (r .both) (r .o .0) (r .p .0) ⌝ }
 {
     let o = q.other;
     let p = q.vertex;
     let v = fuller(n, table, o, p);
-    let row = row_of(n, table, v);
+    let row = neighbour_row(n, table, v);
     if row.size <= HUB {
         return Aim {
             some: true,
@@ -68,9 +68,9 @@ fn aim_among(n: usize, table: &[u16], x: usize, q: Linking) -> Aim
 
 // At row 3 the face of the first three corners needs a vertex that links them: without one no cell goes on, and a sole
 // one is a corner of that face and links no other face of the place.
-fn aim_by(n: usize, table: &[u16], x: usize, q: Linking) -> Aim
+fn aim_from_links(n: usize, table: &[u16], x: usize, q: Linking) -> Aim
     requires { ⌜ Rowed n (now table) × ((x ≡ 3) ⊎ (x ≡ 11)) ⌝ }
-    ensures { λ r. ⌜ Aims (Covers q) x (r .some) (r .both) (r .o .0) (r .p .0) ⌝ }
+    ensures { λ r. ⌜ Aims (IsMet q) x (r .some) (r .both) (r .o .0) (r .p .0) ⌝ }
 {
     if x == 3 {
         let p = q.vertex;
@@ -95,9 +95,9 @@ fn aim_by(n: usize, table: &[u16], x: usize, q: Linking) -> Aim
 }
 
 // At row 16 any vertex may be barred: the apex links the first three corners, and so does another corner.
-pub fn aim_at(n: usize, table: &[u16], marks: &[u8], place: Place) -> Aim
-    requires { ⌜ Lent n (now table) (now marks) ⌝ }
-    ensures { λ r. ⌜ Aims (LinksFirst n (now (table .entry)) (now (marks .entry)) (place .tuple)) (place .row) (r .some) (r .both) (r .o .0) (r .p .0) ⌝ }
+pub fn aim_at(n: usize, table: &[u16], hints: &[u8], place: Place) -> Aim
+    requires { ⌜ Lent n (now table) (now hints) ⌝ }
+    ensures { λ r. ⌜ Aims (LinksFirst n (now (table .entry)) (now (hints .entry)) (place .tuple)) (place .row) (r .some) (r .both) (r .o .0) (r .p .0) ⌝ }
 {
     let t = place.tuple;
     let x = place.row;
@@ -107,7 +107,7 @@ pub fn aim_at(n: usize, table: &[u16], marks: &[u8], place: Place) -> Aim
         if x != 11 {
             let mut p = Vertex(65535);
             if x == 16 {
-                p = fullest(n, table, marks, a, b);
+                p = fullest(n, table, hints, a, b);
             }
             return Aim {
                 some: true,
@@ -117,7 +117,7 @@ pub fn aim_at(n: usize, table: &[u16], marks: &[u8], place: Place) -> Aim
             };
         }
     }
-    let e = Edge {
+    let e = FaceEdge {
         u: a,
         w: b,
         floor: wide(t[0]) + 1,
@@ -125,6 +125,6 @@ pub fn aim_at(n: usize, table: &[u16], marks: &[u8], place: Place) -> Aim
         p: b,
         q: b,
     };
-    let q = sole(n, table, marks, e, Vertex(t[2]));
-    aim_by(n, table, x, q)
+    let q = sole(n, table, hints, e, Vertex(t[2]));
+    aim_from_links(n, table, x, q)
 }

@@ -1,16 +1,16 @@
 -- What an accepted file gives. Assumes nothing.
-use mathlib.Core.Path.{_≡_, refl, sym, _∙_}
-use mathlib.Core.List.{List, _++_}
+use mathlib.Core.Path.{_≡_, refl}
+use mathlib.Core.List.{List}
 use Prim.Native.Nat.{ℕ, _*_, _/_}
 use native.Mathlib.Omega.{arith}
 use lib.ListN.{length}
 use borrow.Author.Tests.{not-false}
-use Rattle.base.specs.Refusals.{firstOf}
-use Rattle.base.proofs.Refusals.{Passed, passed}
-use Rattle.space.specs.Arrays.{Close}
-use Rattle.around.specs.Index.{Labelled}
+use Rattle.base.proofs.Refusals.{passed}
+use Rattle.space.specs.between.Working.{Close}
+use Rattle.tets_around.specs.between.Index.{Labelled}
 use Rattle.facets.proofs.Sound.{Sound, sound}
-use Rattle.layout.specs.Layout.{vertices, tets, Framed, vertexPart, tetPart, coordsOf, labelsOf}
+use Rattle.layout.specs.Layout.{vertices, tets, vertexPart, tetPart, coordsOf, labelsOf}
+use Rattle.layout.specs.between.Framed.{Framed}
 use Rattle.layout.proofs.Framed.{framed, coords-long, labels-long}
 use Rattle.decoding.proofs.Parts.{near-close}
 use Rattle.tets.proofs.Labelled.{labelled-of}

@@ -1,6 +1,5 @@
 -- What an answer tells of the first refusal, and the file's refusal from that of its header. Assumes nothing.
 use mathlib.Core.Path.{_≡_, refl, sym, _∙_}
-use mathlib.Core.Bool.{Bool, true, false, cond}
 use mathlib.Core.List.{List, _++_}
 use Prim.Native.Nat.{ℕ, _<_}
 use native.Mathlib.Decide.{decLt}
@@ -8,9 +7,11 @@ use native.Mathlib.Omega.{arith}
 use borrow.Author.Tests.{eq-eqb, ne-eqb, not-false}
 use Rattle.base.specs.Refusals.{firstOf}
 use Rattle.base.proofs.Refusals.{Passed, passed, first-past, first-told}
-use Rattle.layout.specs.Layout.{vertices, tets, Framed, coordsOf, labelsOf}
+use Rattle.layout.specs.Layout.{vertices, tets, coordsOf, labelsOf}
+use Rattle.layout.specs.between.Framed.{Framed}
 use Rattle.layout.proofs.Framed.{framed}
-use Rattle.arrays.specs.Refusals.{ofHeader, ofNumbers, ofTets, refusals, refusal, answered, headed}
+use Rattle.arrays.specs.Refusals.{ofHeader, ofNumbers, ofTets, refusal, answered}
+use Rattle.arrays.specs.between.Headed.{headed}
 use Rattle.arrays.specs.declared.Checked.the-variants.{Accepted, Refused}
 
 module _ (f : List ℕ) where

@@ -1,5 +1,5 @@
 -- What `load` promises, from what it reads and from the two answers behind it. Assumes nothing.
-use mathlib.Core.Path.{_≡_, refl, sym, _∙_}
+use mathlib.Core.Path.{_≡_, sym, _∙_}
 use mathlib.Core.List.{List, _++_}
 use Prim.Native.Nat.{ℕ, _*_, _/_, _<_, _≤_}
 use native.Mathlib.Omega.{arith}
@@ -8,11 +8,12 @@ use lib.ListN.{length}
 use Rattle.base.specs.Refusals.{firstOf}
 use Rattle.base.proofs.Refusals.{first-past, first-told}
 use Rattle.space.specs.Arrays.{meshOf}
-use Rattle.around.specs.Index.{Labelled, Indexed}
-use Rattle.layout.specs.Layout.{vertices, tets, Framed, vertexPart, tetPart, coordsOf, labelsOf, partsOf, decoded}
+use Rattle.tets_around.specs.between.Index.{Labelled, Indexed}
+use Rattle.layout.specs.Layout.{vertices, tets, vertexPart, tetPart, coordsOf, labelsOf, partsOf, decoded}
 use Rattle.layout.proofs.Framed.{coords-long, labels-long, parts-long}
-use Rattle.arrays.specs.Refusals.{ofNumbers, ofTets, refusal, headed}
-use Rattle.arrays.specs.Loaded.{Loaded}
+use Rattle.arrays.specs.Refusals.{ofNumbers, ofTets, refusal}
+use Rattle.arrays.specs.between.Headed.{headed}
+use Rattle.arrays.specs.between.Loaded.{Loaded}
 use Rattle.arrays.specs.declared.Checked.the-variants.{Accepted}
 use Rattle.arrays.proofs.Answers.{header-framed, refusal-rest}
 use Rattle.arrays.proofs.Numbers.{numbers-passed, numbers-close, numbers-labelled}

@@ -7,8 +7,8 @@ use lib.ListN.{length}
 use borrow.Author.Tests.{not-false}
 use Rattle.base.specs.Refusals.{firstOf}
 use Rattle.base.proofs.Refusals.{Passed, passed}
-use Rattle.space.specs.Arrays.{Close}
-use Rattle.around.specs.Index.{Labelled}
+use Rattle.space.specs.between.Working.{Close}
+use Rattle.tets_around.specs.between.Index.{Labelled}
 use Rattle.decoding.proofs.Parts.{near-close}
 use Rattle.tets.proofs.Labelled.{labelled-of}
 use Rattle.arrays.specs.Refusals.{ofNumbers}

@@ -1,2 +1,2 @@
 pub mod Refusals
-pub mod Loaded
+pub mod between

@@ -58,10 +58,6 @@ refusal f = firstOf (refusals f)
 unfoldable pub answered : ℕ → List ℕ → Checked
 answered k f = cond (eqb k 0) (Accepted (vertices f) (tets f)) (Refused k)
 
--- of the header alone
-abbrev pub headed : List ℕ → Checked
-headed f = answered (firstOf (ofHeader f)) f
-
 -- of the file
 abbrev pub checked : List ℕ → Checked
 checked f = answered (refusal f) f

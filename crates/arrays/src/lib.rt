@@ -1,26 +1,27 @@
 // A mesh file read into arrays that the caller lends, with its index, and refusals 1 to 9 on the way: for everyone who
 // asks about a file's tetrahedra or cells. The tests stand in the order of the list `refusals`.
-use around::index;
 use decoding::all_near;
 use decoding::decode;
+use facet_pairs::put_all;
 use facets::any_crowded;
 use facets::any_folded;
 use layout::counts_right;
 use layout::layout_right;
 use layout::length_right;
 use layout::u32_at;
-use pairs::put_all;
 use tets::any_flat;
 use tets::any_outside;
 use tets::any_twice;
+use tets_around::index;
 ghost use mathlib.Core.Path.{_≡_};
 ghost use Prim.Native.Nat.{_*_, _≤_, _<_};
 ghost use lib.ListN.{length};
 ghost use Rattle.base.specs.Refusals.{firstOf};
-ghost use Rattle.space.specs.Arrays.{Close};
-ghost use Rattle.around.specs.Index.{Indexed};
-ghost use Rattle.arrays.specs.Refusals.{ofHeader, ofNumbers, ofTets, headed};
-ghost use Rattle.arrays.specs.Loaded.{Loaded};
+ghost use Rattle.space.specs.between.Working.{Close};
+ghost use Rattle.tets_around.specs.between.Index.{Indexed};
+ghost use Rattle.arrays.specs.Refusals.{ofNumbers, ofTets};
+ghost use Rattle.arrays.specs.between.Headed.{headed};
+ghost use Rattle.arrays.specs.between.Loaded.{Loaded};
 ghost use Rattle.arrays.specs.declared.Checked.the-variants.{Accepted};
 
 // What is answered of a file: the counts, or the refusal.

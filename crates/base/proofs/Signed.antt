@@ -17,7 +17,7 @@ use lib.Signed.{mag, ltZ, leZ}
 use mir.Syntax.{Width}
 use mir.Val.{SFits, toZ, ofZ, hbits}
 use mir.ValLaws.{toZ-ofZ}
-use Rattle.base.specs.Size.{Small}
+use Rattle.base.specs.between.Size.{Small}
 
 -- ---- sizes
 

@@ -1,13 +1,12 @@
 -- Stores one after the other, and a loop whose step i stores what i asks for.
 -- Assumes nothing.
-use Prim.Native.Nat.{ℕ, _+_, _<_}
+use Prim.Native.Nat.{ℕ, _+_}
 use mathlib.Core.Path.{_≡_, refl, _∙_}
 use mathlib.Core.Logic.{_⊎_, ⊎-elim}
 use mathlib.Core.List.{List}
 use native.Mathlib.Omega.{arith}
 use native.Mathlib.Decide.{decLt}
-use lib.ListN.{length}
-use Rattle.base.specs.Stores.{Stores, Below}
+use Rattle.base.specs.between.Stores.{Stores, Below}
 
 module _ {A : Type 0} {Told : List ℕ → A → Type 0} {m m′ m″ : List ℕ} {p q : A → Type 0} (i : Stores Told m m′ p) (j : Stores Told m′ m″ q) where
   -- what the first asked for is told behind the second

@@ -1,5 +1,4 @@
 pub mod Lists
 pub mod Laid
-pub mod Size
 pub mod Refusals
-pub mod Stores
+pub mod between

@@ -10,7 +10,7 @@ use native.Mathlib.Decide.{decLt}
 use borrow.Author.Tests.{eq-eqb}
 use lib.Dec.{eqb}
 use lib.ListN.{length, getD}
-use Rattle.candidates.specs.Met.{Rises, Entered, Met}
+use Rattle.candidates.specs.between.Met.{Rises, Entered, Met}
 
 -- entries of a row from a place on are not less than the one there
 rises-from : (row : List ℕ) → Rises row → (i p : ℕ) → i ≤ p → p < length row → getD row i 0 ≤ getD row p 0

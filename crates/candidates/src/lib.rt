@@ -1,26 +1,26 @@
 // The next candidate at a place: the first vertex that stands in the rows of two corners joined to it and with which
 // the tuple passes there.
 // x is the row of a place in the tables of the levels.
-use around::Row;
 use levels::Place;
 use levels::also_of;
 use levels::lesser_of;
+use levels::passes_with;
 use levels::third_of;
-use levels::tries;
 use levels::wide;
 use reaching::fewer;
 use space::Vertex;
+use tets_around::Row;
 ghost use mathlib.Core.Path.{_≡_};
 ghost use mathlib.Core.Logic.{_⊎_};
 ghost use mathlib.Core.Bool.{_&&_};
 ghost use Prim.Native.Nat.{_<_};
 ghost use lib.Dec.{eqb};
 ghost use lib.ListN.{length};
-ghost use Rattle.space.specs.Arrays.{Close};
-ghost use Rattle.marks.specs.Marks.{places};
-ghost use Rattle.levels.specs.Levels.{levels};
-ghost use Rattle.levels.specs.Fits.{Placed, fitsWith};
-ghost use Rattle.candidates.specs.Met.{Rises, Entered, Raised, Served, Met, MetIn};
+ghost use Rattle.space.specs.between.Working.{Close};
+ghost use Rattle.facet_hints.specs.between.Hints.{hintPlaces};
+ghost use Rattle.levels.specs.between.Levels.{levels};
+ghost use Rattle.levels.specs.between.Passing.{Placed, passesWith};
+ghost use Rattle.candidates.specs.between.Met.{Rises, Entered, Raised, Served, Met, MetIn};
 
 // A row longer than this is not gone through beside another. That is a matter of speed alone.
 const LONG: usize = 96;
@@ -29,7 +29,7 @@ const LONG: usize = 96;
 const NONE: usize = 65536;
 
 // Two rows that have every vertex which can come at a place.
-pub struct Rows {
+pub struct TwoRows {
     pub one: Row,
     pub two: Row,
 }
@@ -37,16 +37,16 @@ pub struct Rows {
 // ---- what stands in two rows
 
 // The two are one vertex with which the tuple passes.
-fn agree(tables: &[u8], coords: &[i64], marks: &[u8], place: Place, v: Vertex, w: Vertex) -> bool
+fn agree(tables: &[u8], coords: &[i64], hints: &[u8], place: Place, v: Vertex, w: Vertex) -> bool
     requires { ⌜ now tables ≡ levels ⌝ }
-    requires { ⌜ Close (now coords) × (length (now marks) ≡ places) ⌝ }
+    requires { ⌜ Close (now coords) × (length (now hints) ≡ hintPlaces) ⌝ }
     requires { ⌜ Placed place ⌝ }
-    ensures { λ r. ⌜ r ≡ (eqb (v .0) (w .0) && fitsWith (now (coords .entry)) (now (marks .entry)) place (v .0)) ⌝ }
+    ensures { λ r. ⌜ r ≡ (eqb (v .0) (w .0) && passesWith (now (coords .entry)) (now (hints .entry)) place (v .0)) ⌝ }
 {
     if v.0 != w.0 {
         return false;
     }
-    tries(tables, coords, marks, place, v)
+    passes_with(tables, coords, hints, place, v)
 }
 
 // Where the entries from lo on begin in a row, by halving.
@@ -71,16 +71,16 @@ fn enter(row: &[u16], lo: usize) -> usize
 fn meet(
     tables: &[u8],
     coords: &[i64],
-    marks: &[u8],
+    hints: &[u8],
     one: &[u16],
     two: &[u16],
     place: Place,
     lo: usize,
 ) -> usize
     requires { ⌜ now tables ≡ levels ⌝ }
-    requires { ⌜ Close (now coords) × (length (now marks) ≡ places) ⌝ }
+    requires { ⌜ Close (now coords) × (length (now hints) ≡ hintPlaces) ⌝ }
     requires { ⌜ Placed place × (Rises (now one) × Rises (now two)) ⌝ }
-    ensures { λ r. ⌜ Met (fitsWith (now (coords .entry)) (now (marks .entry)) place) (now (one .entry)) (now (two .entry)) lo r ⌝ }
+    ensures { λ r. ⌜ Met (passesWith (now (coords .entry)) (now (hints .entry)) place) (now (one .entry)) (now (two .entry)) lo r ⌝ }
 {
     let mut i = enter(one, lo);
     let mut j = enter(two, lo);
@@ -92,7 +92,7 @@ fn meet(
         let w = two[j];
         if w < v {
             j += 1;
-        } else if agree(tables, coords, marks, place, Vertex(v), Vertex(w)) {
+        } else if agree(tables, coords, hints, place, Vertex(v), Vertex(w)) {
             return wide(v);
         } else {
             i += 1;
@@ -105,16 +105,16 @@ fn meet(
 pub fn meet_rows(
     tables: &[u8],
     coords: &[i64],
-    marks: &[u8],
+    hints: &[u8],
     table: &[u16],
-    rows: Rows,
+    rows: TwoRows,
     place: Place,
     lo: usize,
 ) -> usize
     requires { ⌜ now tables ≡ levels ⌝ }
-    requires { ⌜ (Close (now coords) × (length (now marks) ≡ places)) × Placed place ⌝ }
+    requires { ⌜ (Close (now coords) × (length (now hints) ≡ hintPlaces)) × Placed place ⌝ }
     requires { ⌜ Served (now table) (rows .one) × Served (now table) (rows .two) ⌝ }
-    ensures { λ r. ⌜ MetIn (fitsWith (now (coords .entry)) (now (marks .entry)) place) (now (table .entry)) rows lo r ⌝ }
+    ensures { λ r. ⌜ MetIn (passesWith (now (coords .entry)) (now (hints .entry)) place) (now (table .entry)) rows lo r ⌝ }
 {
     let one = rows.one;
     let two = rows.two;
@@ -125,7 +125,7 @@ pub fn meet_rows(
     meet(
         tables,
         coords,
-        marks,
+        hints,
         &table[from..end],
         &table[low..high],
         place,

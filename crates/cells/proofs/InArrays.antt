@@ -12,11 +12,11 @@ use Rattle.base.proofs.Lists.{keep-map}
 use Rattle.base.proofs.Loop.{length-up}
 use Rattle.space.specs.Mesh.{Mesh, Tetrahedron, holds}
 use Rattle.space.specs.Arrays.{pointAt, row4, tetAt, meshOf}
-use Rattle.around.specs.Index.{togetherIn}
-use Rattle.around.proofs.Around.{together-in, all-map, count-map}
+use Rattle.tets_around.specs.Sharing.{togetherIn}
+use Rattle.tets_around.proofs.Around.{together-in, all-map, count-map}
 use Rattle.templates.specs.Tables.{Template, at}
 use Rattle.cells.specs.Cells.{areCorners, allJoined, allFaces, boxesAbove, boxOf, boxAt, sidesOf, fills, allAgree, isTuple, hasEdges, isFacet, hasFaces, isSound, belongs, tetsOf, numbersFrom, numbersOf, sides, isFilledBy, isOnePart}
-use Rattle.cells.specs.Rows.{pointsOf, facetIn, owns, ownNumbers}
+use Rattle.cells.specs.between.Rows.{pointsOf, facetIn, owns, ownNumbers}
 
 module _ (zs : List ℤ) (ls ps : List ℕ) where
   module _ (t : Template) (c : List ℕ) where

@@ -15,11 +15,11 @@ use Rattle.space.specs.Mesh.{Mesh, Tetrahedron, origin, together}
 use Rattle.templates.specs.Tables.{Template, at}
 
 -- the two triangles of a quadrilateral's one diagonal, and of its other
-unfoldable pub first : List ℕ → List (List ℕ)
-first q = at q (0 ∷ 1 ∷ 2 ∷ []) ∷ at q (0 ∷ 2 ∷ 3 ∷ []) ∷ []
+unfoldable pub oneDiagonal : List ℕ → List (List ℕ)
+oneDiagonal q = at q (0 ∷ 1 ∷ 2 ∷ []) ∷ at q (0 ∷ 2 ∷ 3 ∷ []) ∷ []
 
-unfoldable pub second : List ℕ → List (List ℕ)
-second q = at q (0 ∷ 1 ∷ 3 ∷ []) ∷ at q (1 ∷ 2 ∷ 3 ∷ []) ∷ []
+unfoldable pub otherDiagonal : List ℕ → List (List ℕ)
+otherDiagonal q = at q (0 ∷ 1 ∷ 3 ∷ []) ∷ at q (1 ∷ 2 ∷ 3 ∷ []) ∷ []
 
 -- the triples of k corners, rising
 unfoldable pub corner3 : ℕ → List (List ℕ)
@@ -38,11 +38,6 @@ one k = eqb k 1
 unfoldable pub noneOrTwo : ℕ → Bool
 noneOrTwo k = eqb k 0 || eqb k 2
 
--- the triangles of one diagonal, with the counts a and b, are on the boundary, and those of the other, with d and e,
--- are not
-unfoldable pub isDiagonal : ℕ → ℕ → ℕ → ℕ → Bool
-isDiagonal a b d e = all one (a ∷ b ∷ []) && all noneOrTwo (d ∷ e ∷ [])
-
 -- ---- the conditions by what they look at
 
 -- 1: k different vertices below n
@@ -57,7 +52,7 @@ allJoined j c es = all (λ ks. j (at c ks)) es
 module _ (f : List ℕ → Bool) where
   -- both triangles of a diagonal of a quadrilateral are
   abbrev pub splits : List ℕ → Bool
-  splits q = all f (first q) || all f (second q)
+  splits q = all f (oneDiagonal q) || all f (otherDiagonal q)
 
   abbrev pub allFaces : List (List ℕ) → List (List ℕ) → Bool
   allFaces ts qs = all f ts && all splits qs
@@ -89,7 +84,7 @@ module _ (g : List ℕ → ℕ) where
 
   -- a quadrilateral is covered by the triangles of exactly one of its diagonals
   abbrev pub covers : List ℕ → Bool
-  covers q = all once (first q) && all paired (second q) || (all once (second q) && all paired (first q))
+  covers q = all once (oneDiagonal q) && all paired (otherDiagonal q) || (all once (otherDiagonal q) && all paired (oneDiagonal q))
 
   -- ts are the triangles, qs the quadrilaterals and ws the triples on no face
   abbrev pub fills : List (List ℕ) → List (List ℕ) → List (List ℕ) → Bool

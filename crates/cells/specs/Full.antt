@@ -7,15 +7,15 @@ use lib.Dec.{ltb}
 use lib.ListN.{length, getD}
 use Rattle.base.specs.Lists.{all, keep, upTo, spread, isIn}
 use Rattle.space.specs.Mesh.{Mesh}
-use Rattle.templates.specs.Tables.{Place, Template, templates, at}
+use Rattle.templates.specs.Tables.{Placing, Template, templates, at}
 use Rattle.cells.specs.Cells.{isCell, numbersOf}
 
 -- v may come at a place after the vertices s: it is new, and above those that it must be above
-unfoldable pub allowed : Place → List ℕ → ℕ → Bool
+unfoldable pub allowed : Placing → List ℕ → ℕ → Bool
 allowed p s v = not (isIn v s) && all (λ k. ltb (getD s k 0) v) (p .below)
 
 -- every tuple of vertices below n that goes on from s, where ok says what may come at a place; in search order, rising
-unfoldable pub grow : (Place → List ℕ → ℕ → Bool) → ℕ → List Place → List ℕ → List (List ℕ)
+unfoldable pub grow : (Placing → List ℕ → ℕ → Bool) → ℕ → List Placing → List ℕ → List (List ℕ)
 grow ok n [] s = s ∷ []
 grow ok n (p ∷ ps) s = spread (λ v. grow ok n ps (s ++ (v ∷ []))) (keep (ok p s) (upTo n))
 

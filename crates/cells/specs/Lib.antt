@@ -1,3 +1,3 @@
 pub mod Cells
 pub mod Full
-pub mod Rows
+pub mod between

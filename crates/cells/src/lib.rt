@@ -7,19 +7,21 @@ ghost use lib.Dec.{ltb};
 ghost use lib.ListN.{length};
 ghost use Rattle.base.specs.Lists.{all};
 ghost use Rattle.space.specs.Box.{isAbove0};
-ghost use Rattle.space.specs.Arrays.{row4, Close};
-ghost use Rattle.around.specs.Index.{Indexed, togetherIn};
+ghost use Rattle.space.specs.Arrays.{row4};
+ghost use Rattle.space.specs.between.Working.{Close};
+ghost use Rattle.tets_around.specs.between.Index.{Indexed};
+ghost use Rattle.tets_around.specs.Sharing.{togetherIn};
 ghost use Rattle.templates.specs.Tables.{at};
-ghost use Rattle.templates.specs.Flat.{pairAt, pairs};
+ghost use Rattle.templates.specs.between.Flat.{pairAt, pairs};
 ghost use Rattle.cells.specs.Cells.{areCorners, allJoined, splits, allFaces, boxOf};
-ghost use Rattle.cells.specs.Rows.{row3, threes, fours, pointsOf, soundBy, facetIn};
-use around::together2;
-use around::together3;
+ghost use Rattle.cells.specs.between.Rows.{row3, threes, fours, pointsOf, soundBy, facetIn};
 use space::Vertex;
 use space::point_at;
 use space::volume;
 use templates::all_distinct;
 use templates::corner;
+use tets_around::together2;
+use tets_around::together3;
 
 // ---- the vertices of a tuple
 

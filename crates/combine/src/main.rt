@@ -115,7 +115,7 @@ enum Step {
 }
 
 // Writes what a call gave: the first line before the first cell, the cells, and at the end the last line.
-fn told(
+fn show_answer(
     out: &mut [u8],
     file: &[u8],
     records: &[u16],
@@ -221,7 +221,7 @@ fn call(
     let end = SIZE * batch(room, done);
     let part = &mut records[..end];
     let answer = listing::portion(file, mark, table, part);
-    told(out, file, part, done, room, answer)
+    show_answer(out, file, part, done, room, answer)
 }
 
 // Calls until the end or the room is reached. A loop has to end, so it counts down from a number that no run uses up.

@@ -7,19 +7,20 @@ ghost use lib.Dec.{eqb};
 ghost use lib.ListN.{length, getD};
 ghost use Rattle.base.specs.Lists.{all};
 ghost use Rattle.space.specs.Arrays.{row4};
-ghost use Rattle.around.specs.Build.{Within};
-ghost use Rattle.cells.specs.Cells.{noneOrTwo, isDiagonal, once, paired, covers, allAgree};
-ghost use Rattle.cells.specs.Rows.{row3, threes, fours, fillsBy, fillsWith};
-ghost use Rattle.counting.specs.Noted.{markOf, Noted, Marks, low, Lettered, sidesBy};
+ghost use Rattle.tets_around.specs.between.Build.{Within};
+ghost use Rattle.cells.specs.Cells.{noneOrTwo, once, paired, covers, allAgree};
+ghost use Rattle.cells.specs.between.Diagonal.{isDiagonal};
+ghost use Rattle.cells.specs.between.Rows.{row3, threes, fours, fillsBy, fillsWith};
+ghost use Rattle.counting.specs.between.Bits.{bitOf, BitsOf, Bits, low, Lettered, sidesBy};
 use space::Tet;
 use templates::corner;
 
 // ---- condition 5
 
 // Whether a tetrahedron has corner j of the cell, as 1 or 0; without a branch, which would cost more.
-fn mark(labels: &[u16], e: Tet, c: &[u16], j: u8) -> u8
+fn bit(labels: &[u16], e: Tet, c: &[u16], j: u8) -> u8
     requires { ⌜ e .0 < length (now labels) / 4 ⌝ }
-    ensures { λ r. ⌜ r ≡ markOf (now (labels .entry)) (now (c .entry)) (e .0) j ⌝ }
+    ensures { λ r. ⌜ r ≡ bitOf (now (labels .entry)) (now (c .entry)) (e .0) j ⌝ }
 {
     let v = corner(c, j);
     let at = 4 * (e.0 as usize);
@@ -32,23 +33,23 @@ fn mark(labels: &[u16], e: Tet, c: &[u16], j: u8) -> u8
 
 // Writes which corners of the cell each of the tetrahedra listed has, 8 entries to each:
 // they are compared once, and then counted by these.
-fn note(labels: &[u16], list: &[u16], c: &[u16], has: &mut [u8])
+fn put_bits(labels: &[u16], list: &[u16], c: &[u16], has: &mut [u8])
     requires { ⌜ Within (length (now labels) / 4) (now list) × (length (now has) ≡ 8 * length (now list)) ⌝ }
-    ensures { λ _. ⌜ Noted (now (labels .entry)) (now (list .entry)) (now (c .entry)) (now (has .exit)) ⌝ }
+    ensures { λ _. ⌜ BitsOf (now (labels .entry)) (now (list .entry)) (now (c .entry)) (now (has .exit)) ⌝ }
 {
     let n = 8 * list.len();
     let mut x = 0;
     while x < n {
         let i = list[x / 8];
-        has[x] = mark(labels, Tet(i), c, (x % 8) as u8);
+        has[x] = bit(labels, Tet(i), c, (x % 8) as u8);
         x += 1;
     }
 }
 
 // Of how many of the tetrahedra three corners are a facet.
-// The product is 1 where all three are marked; a branch would cost more.
+// The product is 1 where all three are set; a branch would cost more.
 fn sides_of(has: &[u8], x: u8, y: u8, z: u8) -> usize
-    requires { ⌜ Marks (now has) × ((x < 8) × ((y < 8) × (z < 8))) ⌝ }
+    requires { ⌜ Bits (now has) × ((x < 8) × ((y < 8) × (z < 8))) ⌝ }
     ensures { λ r. ⌜ r ≡ sidesBy (now (has .entry)) (x ∷ y ∷ z ∷ []) ⌝ }
 {
     let a = x as usize;
@@ -67,7 +68,7 @@ fn sides_of(has: &[u8], x: u8, y: u8, z: u8) -> usize
 
 // The same of row i of a table of triples.
 fn sides_row(has: &[u8], rows: &[u8], i: usize) -> usize
-    requires { ⌜ (i < length (now rows) / 3) × (Marks (now has) × (low (now rows) ≡ true)) ⌝ }
+    requires { ⌜ (i < length (now rows) / 3) × (Bits (now has) × (low (now rows) ≡ true)) ⌝ }
     ensures { λ r. ⌜ r ≡ sidesBy (now (has .entry)) (row3 (now (rows .entry)) i) ⌝ }
 {
     let at = 3 * i;
@@ -76,7 +77,7 @@ fn sides_row(has: &[u8], rows: &[u8], i: usize) -> usize
 
 // The triples of the table are on the boundary: each is a facet of one.
 fn all_once(has: &[u8], rows: &[u8]) -> bool
-    requires { ⌜ Marks (now has) × (low (now rows) ≡ true) ⌝ }
+    requires { ⌜ Bits (now has) × (low (now rows) ≡ true) ⌝ }
     ensures { λ r. ⌜ r ≡ all (once (sidesBy (now (has .entry)))) (threes (now (rows .entry))) ⌝ }
 {
     let k = rows.len() / 3;
@@ -101,7 +102,7 @@ fn is_pair(k: usize) -> bool
 
 // The triples of the table are inside: each is a facet of none or of two.
 fn all_paired(has: &[u8], rows: &[u8]) -> bool
-    requires { ⌜ Marks (now has) × (low (now rows) ≡ true) ⌝ }
+    requires { ⌜ Bits (now has) × (low (now rows) ≡ true) ⌝ }
     ensures { λ r. ⌜ r ≡ all (paired (sidesBy (now (has .entry)))) (threes (now (rows .entry))) ⌝ }
 {
     let k = rows.len() / 3;
@@ -133,7 +134,7 @@ fn is_diagonal(a: usize, b: usize, d: usize, e: usize) -> bool
 
 // Quadrilateral i is covered by the triangles of exactly one of its diagonals.
 fn covered(has: &[u8], quads: &[u8], i: usize) -> bool
-    requires { ⌜ (i < length (now quads) / 4) × (Marks (now has) × (low (now quads) ≡ true)) ⌝ }
+    requires { ⌜ (i < length (now quads) / 4) × (Bits (now has) × (low (now quads) ≡ true)) ⌝ }
     ensures { λ r. ⌜ r ≡ covers (sidesBy (now (has .entry))) (row4 (now (quads .entry)) i) ⌝ }
 {
     let at = 4 * i;
@@ -152,7 +153,7 @@ fn covered(has: &[u8], quads: &[u8], i: usize) -> bool
 }
 
 fn all_covered(has: &[u8], quads: &[u8]) -> bool
-    requires { ⌜ Marks (now has) × (low (now quads) ≡ true) ⌝ }
+    requires { ⌜ Bits (now has) × (low (now quads) ≡ true) ⌝ }
     ensures { λ r. ⌜ r ≡ all (covers (sidesBy (now (has .entry)))) (fours (now (quads .entry))) ⌝ }
 {
     let k = quads.len() / 4;
@@ -166,9 +167,9 @@ fn all_covered(has: &[u8], quads: &[u8]) -> bool
     true
 }
 
-// 5, where the corners that the tetrahedra have are noted.
+// 5, where the corners that the tetrahedra have are known.
 fn is_filled_by(has: &[u8], triangles: &[u8], quads: &[u8], within: &[u8]) -> bool
-    requires { ⌜ Marks (now has) × Lettered (now triangles) (now quads) (now within) ⌝ }
+    requires { ⌜ Bits (now has) × Lettered (now triangles) (now quads) (now within) ⌝ }
     ensures { λ r. ⌜ r ≡ fillsBy (sidesBy (now (has .entry))) (now (triangles .entry)) (now (quads .entry)) (now (within .entry)) ⌝ }
 {
     if !all_once(has, triangles) {
@@ -196,7 +197,7 @@ pub fn is_filled(
     ensures { λ r. ⌜ r ≡ fillsWith (now (labels .entry)) (now (list .entry)) (now (c .entry))
         (now (triangles .entry)) (now (quads .entry)) (now (within .entry)) ⌝ }
 {
-    note(labels, list, c, has);
+    put_bits(labels, list, c, has);
     is_filled_by(has, triangles, quads, within)
 }
 

@@ -8,13 +8,14 @@ use native.Mathlib.Omega.{arith}
 use lib.ListN.{length, getD, take, drop}
 use lib.IntN.{ℤ, pos}
 use Rattle.base.specs.Lists.{all}
-use Rattle.base.specs.Size.{Small}
+use Rattle.base.specs.between.Size.{Small}
 use Rattle.base.proofs.Bools.{and-left, and-right}
 use Rattle.base.proofs.Loop.{part-is}
 use Rattle.space.specs.Box.{near}
-use Rattle.space.specs.Arrays.{Close}
+use Rattle.space.specs.between.Working.{Close}
 use Rattle.space.proofs.Near.{near-small}
-use Rattle.layout.specs.Layout.{Framed, coordsIn, labelsIn, partsIn, coordsOf, labelsOf, partsOf}
+use Rattle.layout.specs.Layout.{coordsIn, labelsIn, partsIn, coordsOf, labelsOf, partsOf}
+use Rattle.layout.specs.between.Framed.{Framed}
 
 -- what was read of `&file[24..]` and of `&file[24 + 12 * n..]` is what the file says
 module _ {f : List ℕ} {n t : ℕ} (h : Framed f n t) where

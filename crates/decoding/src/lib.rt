@@ -6,7 +6,8 @@ ghost use Prim.Native.Nat.{_+_, _*_, _≤_, _<_};
 ghost use lib.ListN.{length};
 ghost use Rattle.base.specs.Lists.{all};
 ghost use Rattle.space.specs.Box.{near};
-ghost use Rattle.layout.specs.Layout.{Framed, coordsIn, labelsIn, partsIn, coordsOf, labelsOf, partsOf};
+ghost use Rattle.layout.specs.Layout.{coordsIn, labelsIn, partsIn, coordsOf, labelsOf, partsOf};
+ghost use Rattle.layout.specs.between.Framed.{Framed};
 
 // ---- the parts, each begun at its offset: `&file[24..]` and `&file[24 + 12 * n..]`
 

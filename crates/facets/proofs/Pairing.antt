@@ -15,11 +15,13 @@ use Rattle.base.specs.Lists.{any, count, from, upTo, distinct}
 use Rattle.base.proofs.Lists.{any-at}
 use Rattle.base.proofs.Members.{from-at}
 use Rattle.space.specs.Arrays.{row4}
-use Rattle.around.specs.Index.{Labelled, hasAll, sharers}
-use Rattle.pairs.specs.declared.Pair.{Pair}
-use Rattle.pairs.specs.Pairs.{Names}
+use Rattle.tets_around.specs.between.Index.{Labelled}
+use Rattle.tets_around.specs.Sharing.{hasAll, sharers}
+use Rattle.facet_pairs.specs.declared.Pair.{Pair}
+use Rattle.facet_pairs.specs.between.Pairs.{Names}
 use Rattle.facets.specs.declared.Facet.{Facet}
-use Rattle.facets.specs.Facets.{atFacet, full, clashes, clashing, Tries}
+use Rattle.facets.specs.Facets.{full, clashes, clashing}
+use Rattle.facets.specs.between.Tries.{atFacet, Tries}
 use Rattle.tets.proofs.Labelled.{none-at}
 use Rattle.facets.proofs.Tests.{clash-has}
 

@@ -12,9 +12,10 @@ use borrow.Author.Tests.{leb-false, not-false, eqb-true, ne-eqb}
 use Rattle.base.specs.Lists.{any, isIn}
 use Rattle.space.specs.Box.{isAbove0}
 use Rattle.space.specs.Arrays.{row4}
-use Rattle.around.specs.Index.{Labelled, hasAll, sharers}
-use Rattle.around.proofs.Rows.{or-left, or-right}
-use Rattle.tets.specs.Tets.{boxAt, flat, anyFlat}
+use Rattle.tets_around.specs.between.Index.{Labelled}
+use Rattle.tets_around.specs.Sharing.{hasAll, sharers}
+use Rattle.tets_around.proofs.Rows.{or-left, or-right}
+use Rattle.tets.specs.Tets.{boxIn, flat, anyFlat}
 use Rattle.tets.proofs.Labelled.{none-at}
 use Rattle.facets.specs.Facets.{someFacet, opposite, full, crowded, astray, clashes, clashing, folded, anyCrowded, anyFolded}
 
@@ -58,17 +59,17 @@ member-not q w (x ∷ xs) e h = go (eqb w x) refl h (member-not q w xs (or-right
     go false s h r = r h
 
 -- where m does not clash: its vertex off the facet is strictly on the other side
-pub no-clash : (zs : List ℤ) (ls : List ℕ) (e u a b c m w : ℕ) → clashes zs ls e u a b c m ≡ false → (m ≡ e → ⊥) → hasAll ls (a ∷ b ∷ c ∷ []) m ≡ true → isIn w (row4 ls m) ≡ true → isIn w (a ∷ b ∷ c ∷ []) ≡ false → opposite (boxAt zs a b c u) (boxAt zs a b c w) ≡ true
+pub no-clash : (zs : List ℤ) (ls : List ℕ) (e u a b c m w : ℕ) → clashes zs ls e u a b c m ≡ false → (m ≡ e → ⊥) → hasAll ls (a ∷ b ∷ c ∷ []) m ≡ true → isIn w (row4 ls m) ≡ true → isIn w (a ∷ b ∷ c ∷ []) ≡ false → opposite (boxIn zs a b c u) (boxIn zs a b c w) ≡ true
 unfolding clashes astray
 no-clash zs ls e u a b c m w k d h i o =
     let f = any (astray zs u a b c) (row4 ls m) in
     let g : f ≡ false = and-rest (hasAll ls (a ∷ b ∷ c ∷ []) m) f h (and-rest (not (eqb m e)) (hasAll ls (a ∷ b ∷ c ∷ []) m && f) (ap not (ne-eqb m e d)) k) in
     let q : astray zs u a b c w ≡ false = member-not (astray zs u a b c) w (row4 ls m) g i in
-    not-false _ (and-rest (not (isIn w (a ∷ b ∷ c ∷ []))) (not (opposite (boxAt zs a b c u) (boxAt zs a b c w))) (ap not o) q)
+    not-false _ (and-rest (not (isIn w (a ∷ b ∷ c ∷ []))) (not (opposite (boxIn zs a b c u) (boxIn zs a b c w))) (ap not o) q)
 
 pub record Sound (zs : List ℤ) (ls : List ℕ) : Type 0 where
   pub labelled : Labelled ls (length zs / 3)
-  pub upright : (e : ℕ) → e < length ls / 4 → isAbove0 (boxAt zs (getD ls (4 * e) 0) (getD ls (4 * e + 1) 0) (getD ls (4 * e + 2) 0) (getD ls (4 * e + 3) 0)) ≡ true
+  pub upright : (e : ℕ) → e < length ls / 4 → isAbove0 (boxIn zs (getD ls (4 * e) 0) (getD ls (4 * e + 1) 0) (getD ls (4 * e + 2) 0) (getD ls (4 * e + 3) 0)) ≡ true
   pub paired : (e : ℕ) → e < length ls / 4 → AtFacets (Paired ls) ls e
   pub faced : (e : ℕ) → e < length ls / 4 → AtFacets (Faced zs ls e) ls e
 

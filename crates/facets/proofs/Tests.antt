@@ -1,7 +1,7 @@
 -- The tests at the four facets of one tetrahedron in turn, two signs, and a clash moved to the row of one vertex.
 -- Assumes nothing.
 use mathlib.Core.Path.{_≡_, refl, sym, _∙_, ap}
-use mathlib.Core.Bool.{Bool, true, false, not, _&&_, _||_, false≢true}
+use mathlib.Core.Bool.{Bool, true, false, not, _&&_, false≢true}
 use mathlib.Core.List.{List, [], _∷_}
 use Prim.Native.Nat.{ℕ, zero, suc}
 use native.Mathlib.Omega.{arith}
@@ -13,12 +13,15 @@ use borrow.Author.Tests.{le-ltb}
 use Rattle.base.specs.Lists.{any}
 use Rattle.base.proofs.Bools.{or-false, or-found, or-passes, and-left, and-right}
 use Rattle.space.specs.Box.{isAbove0}
-use Rattle.space.specs.Arrays.{row4, around}
-use Rattle.around.specs.Index.{hasAll, fewest}
-use Rattle.around.proofs.Around.{any-around, fewest-held}
+use Rattle.space.specs.Arrays.{row4}
+use Rattle.space.specs.between.Working.{around}
+use Rattle.tets_around.specs.between.Index.{fewest}
+use Rattle.tets_around.specs.Sharing.{hasAll}
+use Rattle.tets_around.proofs.Around.{any-around, fewest-held}
 use Rattle.space.specs.declared.Tet.{Tet}
 use Rattle.facets.specs.declared.Facet.{Facet}
-use Rattle.facets.specs.Facets.{facetOf, atFacet, someFacet, isBelow0, opposite, astray, clashes, clashing}
+use Rattle.facets.specs.Facets.{someFacet, isBelow0, opposite, astray, clashes, clashing}
+use Rattle.facets.specs.between.Tries.{facetOf, atFacet}
 
 -- ---- `if` the test passes at one of the four facets
 

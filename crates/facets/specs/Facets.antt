@@ -2,21 +2,17 @@
 -- zs are the coordinates, three a vertex; ls the labels, four a tetrahedron; e and m are numbers of tetrahedra,
 -- a, b, c, u, v, w numbers of vertices.
 -- Assumes nothing.
-use Prim.Native.Nat.{ℕ, _+_, _*_, _/_, _<_}
-use mathlib.Core.Path.{_≡_}
+use Prim.Native.Nat.{ℕ, _+_, _*_}
 use mathlib.Core.Bool.{Bool, true, false, not, _&&_, _||_}
 use mathlib.Core.List.{List, [], _∷_}
 use lib.Dec.{leb, eqb}
 use lib.IntN.{ℤ, pos, negsuc}
-use lib.ListN.{length, getD}
+use lib.ListN.{getD}
 use Rattle.base.specs.Lists.{any, isIn}
 use Rattle.space.specs.Box.{isAbove0}
 use Rattle.space.specs.Arrays.{row4}
-use Rattle.around.specs.Index.{hasAll, sharers}
-use Rattle.tets.specs.Tets.{someTet, boxAt}
-use Rattle.space.specs.declared.Vertex.{Vertex}
-use Rattle.space.specs.declared.Tet.{Tet}
-use Rattle.facets.specs.declared.Facet.{Facet}
+use Rattle.tets_around.specs.Sharing.{hasAll, sharers}
+use Rattle.tets.specs.Tets.{someTet, boxIn}
 
 -- the test passes at some facet of tetrahedron e; it is given the fourth vertex, then the facet's three
 abbrev pub someFacet : (ℕ → ℕ → ℕ → ℕ → Bool) → List ℕ → ℕ → Bool
@@ -46,7 +42,7 @@ crowded ls e = someFacet (full ls) ls e
 
 -- w is off the facet a, b, c, and not strictly on the other side of it from u
 unfoldable pub astray : List ℤ → ℕ → ℕ → ℕ → ℕ → ℕ → Bool
-astray zs u a b c w = not (isIn w (a ∷ b ∷ c ∷ [])) && not (opposite (boxAt zs a b c u) (boxAt zs a b c w))
+astray zs u a b c w = not (isIn w (a ∷ b ∷ c ∷ [])) && not (opposite (boxIn zs a b c u) (boxIn zs a b c w))
 
 -- m is another tetrahedron than e with the facet a, b, c, and its fourth vertex is astray
 unfoldable pub clashes : List ℤ → List ℕ → ℕ → ℕ → ℕ → ℕ → ℕ → ℕ → Bool
@@ -69,16 +65,3 @@ anyCrowded ls = someTet ls (crowded ls)
 -- 9: two tetrahedra share a facet, and their fourth vertices are not strictly on its opposite sides
 abbrev pub anyFolded : List ℤ → List ℕ → Bool
 anyFolded zs ls = someTet ls (folded zs ls)
-
--- ---- the same at a facet as the code hands it on
-
-abbrev pub facetOf : Tet → Vertex → Vertex → Vertex → Vertex → Facet
-facetOf e u a b c = record { e = e; u = u; a = a; b = b; c = c }
-
-abbrev pub atFacet : {A : Type 0} → (ℕ → ℕ → ℕ → ℕ → A) → Facet → A
-atFacet q f = q (f .u .0) (f .a .0) (f .b .0) (f .c .0)
-
--- r is true where m clashes and x is its number plus one, and true only where some tetrahedron clashes
-pub record Tries (zs : List ℤ) (ls : List ℕ) (f : Facet) (x : ℕ) (r : Bool) : Type 0 where
-  pub found : (m : ℕ) → m < length ls / 4 → x ≡ m + 1 → atFacet (clashes zs ls (f .e .0)) f m ≡ true → r ≡ true
-  pub some : r ≡ true → atFacet (clashing zs ls (f .e .0)) f ≡ true

@@ -1,1 +1,2 @@
 pub mod Facets
+pub mod between

@@ -1,24 +1,26 @@
 // What is asked of the tetrahedra that share a facet: refusals 8 and 9, over the working arrays with their index.
-use around::rarest;
-use around::row_of;
-use around::sharing;
-use pairs::pair_of;
+use facet_pairs::pair_of;
 use space::Tet;
 use space::Vertex;
 use space::tet_has3;
-use tets::box_at;
+use tets::box_in;
 use tets::corners;
+use tets_around::around_row;
+use tets_around::rarest;
+use tets_around::sharing;
 ghost use mathlib.Core.Path.{_≡_};
 ghost use mathlib.Core.List.{[], _∷_};
 ghost use mathlib.Core.Bool.{true};
 ghost use Prim.Native.Nat.{_/_, _<_};
 ghost use lib.ListN.{length};
 ghost use Rattle.base.specs.Lists.{any, distinct};
-ghost use Rattle.space.specs.Arrays.{Close, row4};
-ghost use Rattle.around.specs.Index.{Indexed};
-ghost use Rattle.around.specs.Build.{Within};
-ghost use Rattle.pairs.specs.Pairs.{Paired};
-ghost use Rattle.facets.specs.Facets.{facetOf, atFacet, opposite, full, crowded, astray, clashes, clashing, Tries, folded, anyCrowded, anyFolded};
+ghost use Rattle.space.specs.Arrays.{row4};
+ghost use Rattle.space.specs.between.Working.{Close};
+ghost use Rattle.tets_around.specs.between.Index.{Indexed};
+ghost use Rattle.tets_around.specs.between.Build.{Within};
+ghost use Rattle.facet_pairs.specs.between.Pairs.{PairsOf};
+ghost use Rattle.facets.specs.Facets.{opposite, full, crowded, astray, clashes, clashing, folded, anyCrowded, anyFolded};
+ghost use Rattle.facets.specs.between.Tries.{facetOf, atFacet, Tries};
 
 // A facet a, b, c of the tetrahedron e, and its fourth vertex u.
 struct Facet {
@@ -47,7 +49,7 @@ fn is_full(
     f: Facet,
 ) -> bool
     requires { ⌜ Indexed (now labels) n (now offsets) (now entries) ⌝ }
-    requires { ⌜ Paired (now labels) (now pairs) ⌝ }
+    requires { ⌜ PairsOf (now labels) (now pairs) ⌝ }
     requires { ⌜ distinct (f .a .0 ∷ f .b .0 ∷ f .c .0 ∷ []) ≡ true ⌝ }
     ensures { λ r. ⌜ r ≡ atFacet (full (now (labels .entry))) f ⌝ }
 {
@@ -67,7 +69,7 @@ fn is_crowded(
     e: Tet,
 ) -> bool
     requires { ⌜ Indexed (now labels) n (now offsets) (now entries) ⌝ }
-    requires { ⌜ Paired (now labels) (now pairs) ⌝ }
+    requires { ⌜ PairsOf (now labels) (now pairs) ⌝ }
     requires { ⌜ e .0 < length (now labels) / 4 ⌝ }
     ensures { λ r. ⌜ r ≡ crowded (now (labels .entry)) (e .0) ⌝ }
 {
@@ -122,8 +124,8 @@ fn is_astray(coords: &[i64], f: Facet, w: Vertex) -> bool
         return false;
     }
     !is_opposite(
-        box_at(coords, f.a, f.b, f.c, f.u),
-        box_at(coords, f.a, f.b, f.c, w),
+        box_in(coords, f.a, f.b, f.c, f.u),
+        box_in(coords, f.a, f.b, f.c, w),
     )
 }
 
@@ -190,7 +192,7 @@ fn clashes_around(
     ensures { λ r. ⌜ r ≡ atFacet (clashing (now (coords .entry)) (now (labels .entry)) (f .e .0)) f ⌝ }
 {
     let x = rarest(labels, n, offsets, entries, f.a, f.b, f.c);
-    let row = row_of(labels, n, offsets, entries, x);
+    let row = around_row(labels, n, offsets, entries, x);
     let from = row.from;
     let end = from + row.size;
     any_clash(coords, labels, &entries[from..end], f)
@@ -224,7 +226,7 @@ fn is_clashing(
 ) -> bool
     requires { ⌜ Close (now coords) ⌝ }
     requires { ⌜ Indexed (now labels) n (now offsets) (now entries) ⌝ }
-    requires { ⌜ Paired (now labels) (now pairs) ⌝ }
+    requires { ⌜ PairsOf (now labels) (now pairs) ⌝ }
     requires { ⌜ distinct (f .a .0 ∷ f .b .0 ∷ f .c .0 ∷ []) ≡ true ⌝ }
     ensures { λ r. ⌜ r ≡ atFacet (clashing (now (coords .entry)) (now (labels .entry)) (f .e .0)) f ⌝ }
 {
@@ -249,7 +251,7 @@ fn is_folded(
 ) -> bool
     requires { ⌜ Close (now coords) ⌝ }
     requires { ⌜ Indexed (now labels) n (now offsets) (now entries) ⌝ }
-    requires { ⌜ Paired (now labels) (now pairs) ⌝ }
+    requires { ⌜ PairsOf (now labels) (now pairs) ⌝ }
     requires { ⌜ e .0 < length (now labels) / 4 ⌝ }
     ensures { λ r. ⌜ r ≡ folded (now (coords .entry)) (now (labels .entry)) (e .0) ⌝ }
 {
@@ -285,7 +287,7 @@ pub fn any_crowded(
     pairs: &[u16],
 ) -> bool
     requires { ⌜ Indexed (now labels) n (now offsets) (now entries) ⌝ }
-    requires { ⌜ Paired (now labels) (now pairs) ⌝ }
+    requires { ⌜ PairsOf (now labels) (now pairs) ⌝ }
     ensures { λ r. ⌜ r ≡ anyCrowded (now (labels .entry)) ⌝ }
 {
     let t = labels.len() / 4;
@@ -310,7 +312,7 @@ pub fn any_folded(
 ) -> bool
     requires { ⌜ Close (now coords) ⌝ }
     requires { ⌜ Indexed (now labels) n (now offsets) (now entries) ⌝ }
-    requires { ⌜ Paired (now labels) (now pairs) ⌝ }
+    requires { ⌜ PairsOf (now labels) (now pairs) ⌝ }
     ensures { λ r. ⌜ r ≡ anyFolded (now (coords .entry)) (now (labels .entry)) ⌝ }
 {
     let t = labels.len() / 4;

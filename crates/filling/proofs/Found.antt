@@ -14,7 +14,7 @@ use Rattle.base.proofs.Runs.{upTo-more}
 use Rattle.record.specs.Entries.{tetPlaces, unused}
 use Rattle.record.proofs.Entries.{pad-length}
 use Rattle.filling.specs.declared.Tets.{Tets}
-use Rattle.filling.specs.Found.{Found, pushed}
+use Rattle.filling.specs.between.Numbered.{Numbered, pushed}
 
 module _ (b : ℕ → Bool) where
   keep-last : (xs : List ℕ) (i : ℕ) → keep b (xs ++ (i ∷ [])) ≡ keep b xs ++ cond (b i) (i ∷ []) []
@@ -39,7 +39,7 @@ padded-more p u xs i l =
     rw (m, set-append-seam, append-assoc)
 
 -- one number more is found
-module _ {xs : List ℕ} {f : Tets} (h : Found xs f) (i : ℕ) where
+module _ {xs : List ℕ} {f : Tets} (h : Numbered xs f) (i : ℕ) where
   list-more : Dec (length xs < tetPlaces) → cond (ltb (f .count) tetPlaces) (set (f .list) (f .count) i) (f .list) ≡ pad tetPlaces unused (take tetPlaces (xs ++ (i ∷ [])))
   list-more (yes l) =
       let n : length (xs ++ (i ∷ [])) ≤ tetPlaces = omega (arith, length-append xs (i ∷ [])) in
@@ -47,15 +47,15 @@ module _ {xs : List ℕ} {f : Tets} (h : Found xs f) (i : ℕ) where
   list-more (no l) =
       rw (h .count, le-ltb (length xs) tetPlaces (omega arith), take-append-le tetPlaces xs (i ∷ []) (omega arith)) (h .list)
 
-  pub found-more : Found (xs ++ (i ∷ [])) (pushed f i)
+  pub found-more : Numbered (xs ++ (i ∷ [])) (pushed f i)
   found-more = record { count = rw (h .count, length-append xs (i ∷ [])); list = list-more (decLt (length xs) tetPlaces) }
 
 -- how many places there are, used or not
-pub listed : {xs : List ℕ} {f : Tets} → Found xs f → length (f .list) ≡ tetPlaces
+pub listed : {xs : List ℕ} {f : Tets} → Numbered xs f → length (f .list) ≡ tetPlaces
 listed {xs} x = ap length (x .list) ∙ pad-length tetPlaces unused (take tetPlaces xs) (simp length-take (omega arith))
 
 -- where they suffice, the numbers stand first, and none after them
-module _ {xs : List ℕ} {f : Tets} (x : Found xs f) (h : f .count ≤ tetPlaces) where
+module _ {xs : List ℕ} {f : Tets} (x : Numbered xs f) (h : f .count ≤ tetPlaces) where
   pub found-all : take (f .count) (f .list) ≡ xs
   found-all =
       let k : length xs ≤ tetPlaces = omega (arith, x .count) in
@@ -67,7 +67,7 @@ module _ {xs : List ℕ} {f : Tets} (x : Found xs f) (h : f .count ≤ tetPlaces
 -- the invariant of the loop that finds them
 pub record FoundUp (b : ℕ → Bool) (i : ℕ) (f : Tets) : Type 0 where
   pub low : f .count ≤ i
-  pub found : Found (keep b (upTo i)) f
+  pub found : Numbered (keep b (upTo i)) f
 
 module _ {b : ℕ → Bool} {i : ℕ} {f : Tets} (h : FoundUp b i f) where
   pub found-take : b i ≡ true → FoundUp b (i + 1) (pushed f i)

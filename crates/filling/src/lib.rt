@@ -3,14 +3,13 @@ ghost use mathlib.Core.Path.{_≡_};
 ghost use Prim.Native.Nat.{_/_, _≤_, _<_};
 ghost use lib.ListN.{length, getD, set, replicate};
 ghost use Rattle.base.specs.Lists.{isIn};
-ghost use Rattle.space.specs.Arrays.{around};
-ghost use Rattle.around.specs.Index.{Indexed};
-ghost use Rattle.around.specs.Build.{Within};
-ghost use Rattle.cells.specs.Rows.{fours, owns, ownsBy, ownNumbersBy};
-ghost use Rattle.filling.specs.Found.{Found, pushed};
-ghost use Rattle.own.specs.Stamps.{Stamped};
-ghost use Rattle.filling.specs.Next.{Rising, Passed, Saw, leftOut, Aside, NextOf, Reached};
-use around::row_of;
+ghost use Rattle.space.specs.between.Working.{around};
+ghost use Rattle.tets_around.specs.between.Index.{Indexed};
+ghost use Rattle.tets_around.specs.between.Build.{Within};
+ghost use Rattle.cells.specs.between.Rows.{fours, owns, ownsBy, ownNumbersBy};
+ghost use Rattle.filling.specs.between.Numbered.{Numbered, pushed};
+ghost use Rattle.own.specs.between.Stamps.{Stamped};
+ghost use Rattle.filling.specs.between.Next.{NeverFalls, ReadUpTo, Saw, leftOut, Aside, NextOfAll, AllReadUpTo};
 use cells::corners4;
 use own::is_hit;
 use own::stamp;
@@ -18,6 +17,7 @@ use record::TET_PLACES;
 use record::UNUSED;
 use space::Tet;
 use space::Vertex;
+use tets_around::around_row;
 
 // How many tetrahedra a cell has, and the numbers of the first, as many as a record has places for, rising.
 pub struct Tets {
@@ -43,7 +43,7 @@ fn push(f: Tets, e: Tet) -> Tets
 
 // What was seen in a row: the least, and the place that the row is read up to.
 // No tetrahedron before that place is asked for again.
-struct Seen {
+struct RowRead {
     least: usize,
     at: usize,
 }
@@ -57,9 +57,9 @@ struct Span {
 
 // The least of a row's tetrahedra that is one of the cell's and not below lo; hi where none below hi is. The row rises,
 // so the first is it.
-fn least_in(labels: &[u16], row: &[u16], s: Span, m: &[u8; 512], c: &[u16], quads: &[u8]) -> Seen
-    requires { ⌜ Within (length (now labels) / 4) (now row) × Rising (now row) ⌝ }
-    requires { ⌜ Stamped (now c) (length (now c)) (now m) × Passed (ownsBy (now labels) (now quads) (now c)) (s .lo) (now row) (s .from) ⌝ }
+fn least_in(labels: &[u16], row: &[u16], s: Span, m: &[u8; 512], c: &[u16], quads: &[u8]) -> RowRead
+    requires { ⌜ Within (length (now labels) / 4) (now row) × NeverFalls (now row) ⌝ }
+    requires { ⌜ Stamped (now c) (length (now c)) (now m) × ReadUpTo (ownsBy (now labels) (now quads) (now c)) (s .lo) (now row) (s .from) ⌝ }
     ensures { λ r. ⌜ Saw (ownsBy (now (labels .entry)) (now (quads .entry)) (now (c .entry))) s (now (row .entry)) r ⌝ }
 {
     let mut at = s.from;
@@ -67,14 +67,14 @@ fn least_in(labels: &[u16], row: &[u16], s: Span, m: &[u8; 512], c: &[u16], quad
         let i = row[at];
         let j = i as usize;
         if s.hi <= j {
-            return Seen { least: s.hi, at };
+            return RowRead { least: s.hi, at };
         }
         if is_hit(labels, Tet(i), s.lo, m, c, quads) {
-            return Seen { least: j, at };
+            return RowRead { least: j, at };
         }
         at += 1;
     }
-    Seen { least: s.hi, at }
+    RowRead { least: s.hi, at }
 }
 
 // The corners of one quadrilateral of a cell, and how many tetrahedra they have.
@@ -91,7 +91,7 @@ fn size_of(labels: &[u16], n: usize, offsets: &[u16], entries: &[u16], v: Vertex
     requires { ⌜ Indexed (now labels) n (now offsets) (now entries) ⌝ }
     ensures { λ r. ⌜ r ≤ length (now (entries .entry)) ⌝ }
 {
-    let row = row_of(labels, n, offsets, entries, v);
+    let row = around_row(labels, n, offsets, entries, v);
     row.size
 }
 
@@ -155,7 +155,7 @@ fn crowd_of(
 }
 
 // The vertex is one of the four.
-fn is_crowded(w: Crowd, v: Vertex) -> bool
+fn is_left_out(w: Crowd, v: Vertex) -> bool
     ensures { λ r. ⌜ r ≡ isIn (v .0) (leftOut w) ⌝ }
 {
     let v = v.0;
@@ -176,7 +176,7 @@ fn row_at<'a>(labels: &[u16], n: usize, offsets: &[u16], entries: &'a [u16], v: 
     requires { ⌜ Indexed (now labels) n (now offsets) (now entries) ⌝ }
     ensures { λ r. ⌜ now r ≡ around (now (labels .entry)) (v .0) ⌝ }
 {
-    let row = row_of(labels, n, offsets, entries, v);
+    let row = around_row(labels, n, offsets, entries, v);
     let from = row.from;
     let end = from + row.size;
     &entries[from..end]
@@ -208,7 +208,7 @@ fn put_place(places: &mut [usize], k: usize, at: usize)
 
 // The next of the cell's tetrahedra, from lo on; the number of all where there is none. Each has a corner of the cell
 // that is not left out, so it is looked for around these, in each row from its place on.
-fn next(
+fn next_own(
     labels: &[u16],
     n: usize,
     offsets: &[u16],
@@ -222,15 +222,15 @@ fn next(
 ) -> usize
     requires { ⌜ Indexed (now labels) n (now offsets) (now entries) × Stamped (now c) (length (now c)) (now m) ⌝ }
     requires { ⌜ Aside (ownsBy (now labels) (now quads) (now c)) (now labels) (leftOut w)
-        × Reached (ownsBy (now labels) (now quads) (now c)) (now labels) (now c) lo (now places) ⌝ }
-    ensures { λ r. ⌜ NextOf (ownsBy (now (labels .entry)) (now (quads .entry)) (now (c .entry))) lo (length (now (labels .entry)) / 4) r
-        × Reached (ownsBy (now (labels .entry)) (now (quads .entry)) (now (c .entry))) (now (labels .entry)) (now (c .entry)) lo (now (places .exit)) ⌝ }
+        × AllReadUpTo (ownsBy (now labels) (now quads) (now c)) (now labels) (now c) lo (now places) ⌝ }
+    ensures { λ r. ⌜ NextOfAll (ownsBy (now (labels .entry)) (now (quads .entry)) (now (c .entry))) lo (length (now (labels .entry)) / 4) r
+        × AllReadUpTo (ownsBy (now (labels .entry)) (now (quads .entry)) (now (c .entry))) (now (labels .entry)) (now (c .entry)) lo (now (places .exit)) ⌝ }
 {
     let mut hi = labels.len() / 4;
     let mut k = 0;
     while k < c.len() {
         let v = c[k];
-        if is_crowded(w, Vertex(v)) {
+        if is_left_out(w, Vertex(v)) {
             k += 1;
             continue;
         }
@@ -254,7 +254,7 @@ pub fn find(
     quads: &[u8],
 ) -> Tets
     requires { ⌜ Indexed (now labels) n (now offsets) (now entries) ⌝ }
-    ensures { λ r. ⌜ Found (ownNumbersBy (now (labels .entry)) (now (quads .entry)) (now (c .entry))) r ⌝ }
+    ensures { λ r. ⌜ Numbered (ownNumbersBy (now (labels .entry)) (now (quads .entry)) (now (c .entry))) r ⌝ }
 {
     let t = labels.len() / 4;
     let w = crowd_of(labels, n, offsets, entries, c, quads);
@@ -264,10 +264,10 @@ pub fn find(
         count: 0,
         list: [UNUSED; TET_PLACES],
     };
-    let mut i = next(labels, n, offsets, entries, 0, w, &m, &mut places, c, quads);
+    let mut i = next_own(labels, n, offsets, entries, 0, w, &m, &mut places, c, quads);
     while i < t {
         found = push(found, Tet(i as u16));
-        i = next(
+        i = next_own(
             labels,
             n,
             offsets,

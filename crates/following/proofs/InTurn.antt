@@ -4,25 +4,25 @@ use Prim.Native.Nat.{ℕ, zero, suc, _+_, _<_, _≤_}
 use mathlib.Core.Path.{_≡_, refl, sym, _∙_, ap, subst}
 use mathlib.Core.Bool.{Bool, true, false, cond, true≢false}
 use mathlib.Core.List.{List, [], _∷_}
-use lib.ListN.{take, getD, drop, replicate}
+use lib.ListN.{take, getD}
 use lib.Seq.{getD-take}
 use native.Mathlib.Omega.{arith}
 use native.Mathlib.Decide.{decLt}
 use Rattle.space.specs.Mesh.{Mesh}
 use Rattle.templates.specs.Tables.{Template, hexahedron, prism, pyramid, templateOf, at}
-use Rattle.cells.specs.Full.{Cell, fullList}
+use Rattle.cells.specs.Full.{fullList}
 use Rattle.record.specs.declared.Mark.{Mark}
-use Rattle.record.specs.Marks.{letters, cellMark}
+use Rattle.record.specs.Marks.{markCorners}
 use Rattle.filling.specs.declared.Tets.{Tets}
-use Rattle.filling.specs.Found.{Found}
-use Rattle.portions.specs.Tuples.{Agree, LeastAfter}
-use Rattle.portions.specs.Steps.{Next}
-use Rattle.rule.specs.Rule.{tetRule, isLeaf, cellAt, Searched, past, within, whole}
+use Rattle.portions.specs.between.Tuples.{Agree, LeastAfter}
+use Rattle.portions.specs.between.Steps.{Next}
+use Rattle.rule.specs.Rule.{tetRule}
+use Rattle.rule.specs.between.Leaf.{isLeaf, cellAt, Searched, past, within, whole}
 use Rattle.rule.proofs.Next.{found-8, found-6, found-5}
-use Rattle.following.specs.Following.{Begun, Stepped, kinds, NoneIn, Came}
+use Rattle.following.specs.between.Following.{Begun, Stepped, kinds, NoneIn, Came}
 
 -- below kind 8 the search order is the letters' own
-pub own-order : (m : Mark) (b : Bool) → take (cond b prism pyramid .corners) (letters m) ≡ at (letters m) (cond b prism pyramid .order)
+pub own-order : (m : Mark) (b : Bool) → take (cond b prism pyramid .corners) (markCorners m) ≡ at (markCorners m) (cond b prism pyramid .order)
 own-order m true = refl
 own-order m false = refl
 

@@ -1,39 +1,39 @@
 // The first cell after a mark, over the three kinds, and whether any is left.
 use filling::Tets;
-use glance::sees;
 use order::letters;
 use order::ordered;
+use pyramid_left::sees;
 use record::Mark;
 use record::end_mark;
-use search::next;
+use search::next_tuple;
 use verdict::no_tets;
 ghost use mathlib.Core.Path.{_≡_};
 ghost use mathlib.Core.Bool.{false};
 ghost use mathlib.Core.List.{_∷_};
-ghost use Prim.Native.Nat.{_+_, _/_, _<_};
-ghost use lib.ListN.{length, getD};
+ghost use Prim.Native.Nat.{_+_, _<_};
+ghost use lib.ListN.{getD};
 ghost use Rattle.base.specs.Lists.{pad};
 ghost use Rattle.space.specs.Arrays.{meshOf};
 ghost use Rattle.templates.specs.Tables.{templateOf, at};
 ghost use Rattle.cells.specs.Full.{fullList};
-ghost use Rattle.record.specs.Marks.{letters, markOf};
+ghost use Rattle.record.specs.Marks.{markCorners, markOf};
 ghost use Rattle.portions.specs.Portions.{remains};
-ghost use Rattle.levels.specs.Levels.{levels};
-ghost use Rattle.search.specs.Ready.{Ready};
+ghost use Rattle.levels.specs.between.Levels.{levels};
+ghost use Rattle.search.specs.between.Ready.{Ready};
 ghost use Rattle.rule.specs.Rule.{tetRule};
-ghost use Rattle.following.specs.Following.{Begun, Stepped, kinds, Came};
+ghost use Rattle.following.specs.between.Following.{Begun, Stepped, kinds, Came};
 
 // The mark of the cell that was found, and its tetrahedra.
-pub struct Step {
+pub struct NextCell {
     pub found: bool,
     pub mark: Mark,
     pub tets: Tets,
 }
 
-fn none() -> Step
+fn none() -> NextCell
     ensures { λ r. ⌜ r .found ≡ false ⌝ }
 {
-    Step {
+    NextCell {
         found: false,
         mark: end_mark(),
         tets: no_tets(),
@@ -64,7 +64,7 @@ fn mark_at(kind: u16, t: [u16; 8]) -> Mark
 // The tuple that the search of a kind begins behind: the mark's own, or in a kind below one before all.
 fn begin(kind: u16, mark: Mark) -> [u16; 8]
     requires { ⌜ templateOf kind .kind ≡ kind ⌝ }
-    ensures { λ r. ⌜ Begun (templateOf kind) (mark .kind) (letters mark) r ⌝ }
+    ensures { λ r. ⌜ Begun (templateOf kind) (mark .kind) (markCorners mark) r ⌝ }
 {
     if mark.kind == kind {
         let m = mark;
@@ -87,14 +87,14 @@ fn next_of(
     n: usize,
     offsets: &[u16],
     entries: &[u16],
-    marks: &[u8],
+    hints: &[u8],
     table: &[u16],
     kind: u16,
     mark: Mark,
     told: bool,
-) -> Step
+) -> NextCell
     requires { ⌜ now tables ≡ levels ⌝ }
-    requires { ⌜ Ready (now coords) (now labels) (now parts) n (now offsets) (now entries) (now marks) (now table) ⌝ }
+    requires { ⌜ Ready (now coords) (now labels) (now parts) n (now offsets) (now entries) (now hints) (now table) ⌝ }
     requires { ⌜ templateOf kind .kind ≡ kind ⌝ }
     ensures { λ r. ⌜ Stepped (meshOf (now (coords .entry)) (now (labels .entry)) (now (parts .entry))) (templateOf kind)
         (markOf mark) (r .found) (markOf (r .mark)) (r .tets) ⌝ }
@@ -104,7 +104,7 @@ fn next_of(
     }
     let from = begin(kind, mark);
     let behind = is_behind(kind, mark, told);
-    let x = next(
+    let x = next_tuple(
         tables,
         coords,
         labels,
@@ -112,7 +112,7 @@ fn next_of(
         n,
         offsets,
         entries,
-        marks,
+        hints,
         table,
         kind,
         from,
@@ -120,7 +120,7 @@ fn next_of(
     );
     let t = x.tuple;
     let tets = x.tets;
-    Step {
+    NextCell {
         found: x.found,
         mark: mark_at(kind, t),
         tets,
@@ -149,13 +149,13 @@ pub fn next_cell(
     n: usize,
     offsets: &[u16],
     entries: &[u16],
-    marks: &[u8],
+    hints: &[u8],
     table: &[u16],
     mark: Mark,
     told: bool,
-) -> Step
+) -> NextCell
     requires { ⌜ now tables ≡ levels ⌝ }
-    requires { ⌜ Ready (now coords) (now labels) (now parts) n (now offsets) (now entries) (now marks) (now table) ⌝ }
+    requires { ⌜ Ready (now coords) (now labels) (now parts) n (now offsets) (now entries) (now hints) (now table) ⌝ }
     ensures { λ r. ⌜ Came (meshOf (now (coords .entry)) (now (labels .entry)) (now (parts .entry)))
         (markOf mark) (r .found) (markOf (r .mark)) (r .tets) ⌝ }
 {
@@ -170,7 +170,7 @@ pub fn next_cell(
             n,
             offsets,
             entries,
-            marks,
+            hints,
             table,
             kind,
             mark,
@@ -205,12 +205,12 @@ pub fn is_any_left(
     n: usize,
     offsets: &[u16],
     entries: &[u16],
-    marks: &[u8],
+    hints: &[u8],
     table: &[u16],
     mark: Mark,
 ) -> bool
     requires { ⌜ now tables ≡ levels ⌝ }
-    requires { ⌜ Ready (now coords) (now labels) (now parts) n (now offsets) (now entries) (now marks) (now table) ⌝ }
+    requires { ⌜ Ready (now coords) (now labels) (now parts) n (now offsets) (now entries) (now hints) (now table) ⌝ }
     ensures { λ r. ⌜ r ≡ remains tetRule (fullList (meshOf (now (coords .entry)) (now (labels .entry)) (now (parts .entry)))) (markOf mark) ⌝ }
 {
     let lo = first_after(mark);
@@ -227,7 +227,7 @@ pub fn is_any_left(
         n,
         offsets,
         entries,
-        marks,
+        hints,
         table,
         mark,
         true,

@@ -9,26 +9,26 @@ use native.Mathlib.Omega.{arith}
 use native.Mathlib.Decide.{decLt}
 use borrow.Author.Tests.{not-true}
 use lib.IntN.{ℤ}
-use Rattle.reaching.specs.declared.Edge.{Edge}
-use Rattle.reaching.specs.Reaching.{Closes, Least}
+use Rattle.reaching.specs.declared.FaceEdge.{FaceEdge}
+use Rattle.reaching.specs.between.Reaching.{Closes, LeastAsked}
 use Rattle.levels.specs.declared.Place.{Place}
-use Rattle.levels.specs.Fits.{fitsWith}
-use Rattle.aims.specs.Aims.{LinksFirst, Aims}
-use Rattle.hunting.specs.Goes.{edgeAt, Follows, Fit, Goes, Stops}
+use Rattle.levels.specs.between.Passing.{passesWith}
+use Rattle.aims.specs.between.Aims.{LinksFirst, Aims}
+use Rattle.hunting.specs.between.Goes.{faceEdgeAt, Follows, Passes, Goes, Stops}
 
 -- ── a leap ──
 
-over : {n : ℕ} {table ms : List ℕ} {e f : Edge} {lo v : ℕ} → e ≡ f → Least (Closes n table ms e) lo n v → Least (Closes n table ms f) lo n v
-over {n} {table} {ms} {e} {f} {lo} {v} q a = subst (λ e. Least (Closes n table ms e) lo n v) q a
+over : {n : ℕ} {table hs : List ℕ} {e f : FaceEdge} {lo v : ℕ} → e ≡ f → LeastAsked (Closes n table hs e) lo n v → LeastAsked (Closes n table hs f) lo n v
+over {n} {table} {hs} {e} {f} {lo} {v} q a = subst (λ e. LeastAsked (Closes n table hs e) lo n v) q a
 
-module _ {n : ℕ} {table ms t : List ℕ} {x o p lo v : ℕ} {both : Bool} {one : Edge} (q : one ≡ edgeAt t x 0 o p) (a : Least (Closes n table ms one) lo n v) where
+module _ {n : ℕ} {table hs t : List ℕ} {x o p lo v : ℕ} {both : Bool} {one : FaceEdge} (q : one ≡ faceEdgeAt t x 0 o p) (a : LeastAsked (Closes n table hs one) lo n v) where
   -- over one edge alone
-  pub leap-first : both ≡ true → Least (Follows n table ms t x o p both) lo n v
+  pub leap-first : both ≡ true → LeastAsked (Follows n table hs t x o p both) lo n v
   leap-first e = record { most = a .most; low = a .low; least = λ y f h. over q a .least y (f .each e .0) h }
 
-  module _ {two : Edge} (z : two ≡ edgeAt t x 3 o p) {r : ℕ} where
+  module _ {two : FaceEdge} (z : two ≡ faceEdgeAt t x 3 o p) {r : ℕ} where
     -- over one after the other
-    pub leap-each : both ≡ true → Least (Closes n table ms two) v n r → Least (Follows n table ms t x o p both) lo n r
+    pub leap-each : both ≡ true → LeastAsked (Closes n table hs two) v n r → LeastAsked (Follows n table hs t x o p both) lo n r
     leap-each e c =
         let b = over z c in
         record {
@@ -38,7 +38,7 @@ module _ {n : ℕ} {table ms t : List ℕ} {x o p lo v : ℕ} {both : Bool} {one
         }
 
     -- the least of two leaps and of p and o
-    pub leap-some : both ≡ false → Least (Closes n table ms two) lo n r → {m k y : ℕ} → m ≤ v → m ≤ r → (m < n → lo ≤ m) → Least (λ y. y ≡ p) lo m k → Least (λ y. y ≡ o) lo k y → Least (Follows n table ms t x o p both) lo n y
+    pub leap-some : both ≡ false → LeastAsked (Closes n table hs two) lo n r → {m k y : ℕ} → m ≤ v → m ≤ r → (m < n → lo ≤ m) → LeastAsked (λ y. y ≡ p) lo m k → LeastAsked (λ y. y ≡ o) lo k y → LeastAsked (Follows n table hs t x o p both) lo n y
     leap-some e s {m} {k} {y} i j g c d =
         let b = over z s in
         record {
@@ -62,18 +62,18 @@ module _ {asked : ℕ → Type 0} {n lo : ℕ} where
   passed-none = record { low = omega arith; rest = λ y p h g. h }
 
   module _ {v : ℕ} (a : Passed asked n lo v) where
-    pub hunted-none : n ≤ v → Least asked lo n n
+    pub hunted-none : n ≤ v → LeastAsked asked lo n n
     hunted-none h = record {
       most = omega arith;
       low = λ g. absurd (let z : ⊥ = omega arith in z);
       least = λ y p g. elim (decLt y n) [ yes l ↦ omega (arith, a .rest y p g l) | no l ↦ omega arith ];
     }
 
-    module _ {leaps : ℕ → Type 0} {r : ℕ} (only : (y : ℕ) → asked y → leaps y) (b : Least leaps v n r) where
+    module _ {leaps : ℕ → Type 0} {r : ℕ} (only : (y : ℕ) → asked y → leaps y) (b : LeastAsked leaps v n r) where
       beyond-r : (y : ℕ) → asked y → lo ≤ y → y < n → r ≤ y
       beyond-r y p g l = b .least y (only y p) (a .rest y p g l)
 
-      pub hunted : Least asked lo n r
+      pub hunted : LeastAsked asked lo n r
       hunted = record {
         most = b .most;
         low = λ h. omega (arith, a .low, b .low h);
@@ -90,22 +90,22 @@ module _ {asked : ℕ → Type 0} {n lo : ℕ} where
         ];
       }
 
-pub hunt-less : {asked : ℕ → Type 0} {n v r q : ℕ} → Least asked v n r → v < n → r < q → n - q < n - v
+pub hunt-less : {asked : ℕ → Type 0} {n v r q : ℕ} → LeastAsked asked v n r → v < n → r < q → n - q < n - v
 hunt-less {asked} {n} {v} {r} b h l = elim (decLt r n) [ yes i ↦ omega (arith, b .low i) | no i ↦ omega arith ]
 
 -- ── one vertex ──
 
-pub stops-fit : (zs : List ℤ) (ms : List ℕ) (place : Place) {n v : ℕ} {r : Bool} → r ≡ fitsWith zs ms place v → Stops (Fit zs ms place) n v r
-stops-fit zs ms place e = record { none = λ f h g. true≢false (sym (e ∙ g) ∙ f) }
+pub stops-fit : (zs : List ℤ) (hs : List ℕ) (place : Place) {n v : ℕ} {r : Bool} → r ≡ passesWith zs hs place v → Stops (Passes zs hs place) n v r
+stops-fit zs hs place e = record { none = λ f h g. true≢false (sym (e ∙ g) ∙ f) }
 
-pub stops-goes : (zs : List ℤ) (ms : List ℕ) (place : Place) {table : List ℕ} {n v : ℕ} {r : Bool} → Stops (Fit zs ms place) n v r → Stops (Goes zs n table ms place) n v r
-stops-goes zs ms place s = record { none = λ f h g. s .none f h (g .fit) }
+pub stops-goes : (zs : List ℤ) (hs : List ℕ) (place : Place) {table : List ℕ} {n v : ℕ} {r : Bool} → Stops (Passes zs hs place) n v r → Stops (Goes zs n table hs place) n v r
+stops-goes zs hs place s = record { none = λ f h g. s .none f h (g .fit) }
 
-module _ {zs : List ℤ} {n : ℕ} {table ms : List ℕ} {place : Place} {some both : Bool} {o p : ℕ} (q : Aims (LinksFirst n table ms (place .tuple)) (place .row) some both o p) where
-  pub goes-follows : (v : ℕ) → Goes zs n table ms place v → Follows n table ms (place .tuple) (place .row) o p both v
+module _ {zs : List ℤ} {n : ℕ} {table hs : List ℕ} {place : Place} {some both : Bool} {o p : ℕ} (q : Aims (LinksFirst n table hs (place .tuple)) (place .row) some both o p) where
+  pub goes-follows : (v : ℕ) → Goes zs n table hs place v → Follows n table hs (place .tuple) (place .row) o p both v
   goes-follows v g = g .follows some both o p q .1
 
-  pub hunt-none : {lo : ℕ} → not some ≡ true → Least (Goes zs n table ms place) lo n n
+  pub hunt-none : {lo : ℕ} → not some ≡ true → LeastAsked (Goes zs n table hs place) lo n n
   hunt-none e = record {
     most = omega arith;
     low = λ g. absurd (let z : ⊥ = omega arith in z);

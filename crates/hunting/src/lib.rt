@@ -5,10 +5,10 @@ use aims::HUB;
 use aims::aim_at;
 use levels::Place;
 use levels::look_of;
-use levels::tries;
+use levels::passes_with;
 use levels::wide;
-use neighbours::row_of;
-use reaching::Edge;
+use neighbours::neighbour_row;
+use reaching::FaceEdge;
 use reaching::beyond;
 use reaching::fewer;
 use reaching::lower;
@@ -18,13 +18,13 @@ ghost use mathlib.Core.Bool.{true, false};
 ghost use Prim.Native.Nat.{_<_, _≤_};
 ghost use lib.Dec.{eqb};
 ghost use lib.ListN.{length};
-ghost use Rattle.space.specs.Arrays.{Close};
-ghost use Rattle.marks.specs.Marks.{places};
-ghost use Rattle.neighbours.specs.Reading.{Rowed};
-ghost use Rattle.reaching.specs.Reaching.{Lent, Least};
-ghost use Rattle.levels.specs.Levels.{look, levels};
-ghost use Rattle.levels.specs.Fits.{Placed};
-ghost use Rattle.hunting.specs.Goes.{floorOf, edgeAt, Follows, Fit, Goes, Stops};
+ghost use Rattle.space.specs.between.Working.{Close};
+ghost use Rattle.facet_hints.specs.between.Hints.{hintPlaces};
+ghost use Rattle.neighbours.specs.between.Reading.{Rowed};
+ghost use Rattle.reaching.specs.between.Reaching.{Lent, LeastAsked};
+ghost use Rattle.levels.specs.between.Levels.{look, levels};
+ghost use Rattle.levels.specs.between.Passing.{Placed};
+ghost use Rattle.hunting.specs.between.Goes.{floorOf, faceEdgeAt, Follows, Passes, Goes, Stops};
 
 // The corners of the kinds 8 and 6 are all above the first one.
 fn floor_of(place: Place) -> usize
@@ -36,17 +36,17 @@ fn floor_of(place: Place) -> usize
 
 // The edge at the entries i and i + 1 of the place's row. What may not link it and the next corner is o, p and the
 // place at entry i + 2.
-fn edge_at(tables: &[u8], place: Place, i: usize, o: Vertex, p: Vertex) -> Edge
+fn edge_at(tables: &[u8], place: Place, i: usize, o: Vertex, p: Vertex) -> FaceEdge
     requires { ⌜ now tables ≡ levels ⌝ }
     requires { ⌜ Placed place × (i < 4) ⌝ }
-    ensures { λ r. ⌜ r ≡ edgeAt (place .tuple) (place .row) i (o .0) (p .0) ⌝ }
+    ensures { λ r. ⌜ r ≡ faceEdgeAt (place .tuple) (place .row) i (o .0) (p .0) ⌝ }
 {
     let t = place.tuple;
     let x = place.row;
     let u = t[look_of(tables, x, i)];
     let w = t[look_of(tables, x, i + 1)];
     let q = t[look_of(tables, x, i + 2)];
-    Edge {
+    FaceEdge {
         u: Vertex(u),
         w: Vertex(w),
         floor: floor_of(place),
@@ -70,48 +70,48 @@ fn is_twice(tables: &[u8], x: usize) -> bool
 
 // The least vertex from lo on that can follow by the aim, or n; where both pairs are asked for, one that follows the
 // second alone may come before it.
-fn leap(
+fn next_following(
     tables: &[u8],
     n: usize,
     table: &[u16],
-    marks: &[u8],
+    hints: &[u8],
     place: Place,
     aim: Aim,
     lo: usize,
 ) -> usize
     requires { ⌜ now tables ≡ levels ⌝ }
-    requires { ⌜ Lent n (now table) (now marks) × (lo ≤ n) ⌝ }
+    requires { ⌜ Lent n (now table) (now hints) × (lo ≤ n) ⌝ }
     requires { ⌜ Placed place ⌝ }
-    ensures { λ r. ⌜ Least (Follows n (now (table .entry)) (now (marks .entry)) (place .tuple) (place .row) (aim .o .0) (aim .p .0) (aim .both)) lo n r ⌝ }
+    ensures { λ r. ⌜ LeastAsked (Follows n (now (table .entry)) (now (hints .entry)) (place .tuple) (place .row) (aim .o .0) (aim .p .0) (aim .both)) lo n r ⌝ }
 {
     let o = aim.o;
     let p = aim.p;
     let one = edge_at(tables, place, 0, o, p);
-    let v = beyond(n, table, marks, one, lo);
+    let v = beyond(n, table, hints, one, lo);
     if aim.both {
         if is_twice(tables, place.row) {
             return v;
         }
         let two = edge_at(tables, place, 3, o, p);
-        return beyond(n, table, marks, two, v);
+        return beyond(n, table, hints, two, v);
     }
     let two = edge_at(tables, place, 3, o, p);
-    let r = beyond(n, table, marks, two, lo);
+    let r = beyond(n, table, hints, two, lo);
     let b = if v < r { v } else { r };
     lower(o, lo, lower(p, lo, b))
 }
 
 // The tuple goes on with v at the place: where this is false, no cell does.
-fn goes_on(tables: &[u8], coords: &[i64], marks: &[u8], n: usize, place: Place, v: usize) -> bool
+fn goes_on(tables: &[u8], coords: &[i64], hints: &[u8], n: usize, place: Place, v: usize) -> bool
     requires { ⌜ now tables ≡ levels ⌝ }
-    requires { ⌜ Close (now coords) × ((length (now marks) ≡ places) × (n ≤ 512)) ⌝ }
+    requires { ⌜ Close (now coords) × ((length (now hints) ≡ hintPlaces) × (n ≤ 512)) ⌝ }
     requires { ⌜ Placed place ⌝ }
-    ensures { λ r. ⌜ Stops (Fit (now (coords .entry)) (now (marks .entry)) place) n v r ⌝ }
+    ensures { λ r. ⌜ Stops (Passes (now (coords .entry)) (now (hints .entry)) place) n v r ⌝ }
 {
     if n <= v {
         return false;
     }
-    tries(tables, coords, marks, place, Vertex(v as u16))
+    passes_with(tables, coords, hints, place, Vertex(v as u16))
 }
 
 // A vertex from lo on with which the tuple goes on at the place, or n. No cell is left out before it.
@@ -120,23 +120,23 @@ pub fn hunt(
     coords: &[i64],
     n: usize,
     table: &[u16],
-    marks: &[u8],
+    hints: &[u8],
     place: Place,
     lo: usize,
 ) -> usize
     requires { ⌜ now tables ≡ levels ⌝ }
-    requires { ⌜ Close (now coords) × Lent n (now table) (now marks) ⌝ }
+    requires { ⌜ Close (now coords) × Lent n (now table) (now hints) ⌝ }
     requires { ⌜ Placed place ⌝ }
-    ensures { λ r. ⌜ Least (Goes (now (coords .entry)) n (now (table .entry)) (now (marks .entry)) place) lo n r ⌝ }
+    ensures { λ r. ⌜ LeastAsked (Goes (now (coords .entry)) n (now (table .entry)) (now (hints .entry)) place) lo n r ⌝ }
 {
-    let aim = aim_at(n, table, marks, place);
+    let aim = aim_at(n, table, hints, place);
     if !aim.some {
         return n;
     }
     let mut v = lo;
     while v < n {
-        let r = leap(tables, n, table, marks, place, aim, v);
-        if goes_on(tables, coords, marks, n, place, r) {
+        let r = next_following(tables, n, table, hints, place, aim, v);
+        if goes_on(tables, coords, hints, n, place, r) {
             return r;
         }
         v = r + 1;
@@ -166,8 +166,8 @@ fn pair_size(tables: &[u8], n: usize, table: &[u16], place: Place, i: usize) -> 
     let x = place.row;
     let u = t[look_of(tables, x, i)];
     let w = t[look_of(tables, x, i + 1)];
-    let r = row_of(n, table, Vertex(u));
-    let q = row_of(n, table, Vertex(w));
+    let r = neighbour_row(n, table, Vertex(u));
+    let q = neighbour_row(n, table, Vertex(w));
     let one = fewer(r, q);
     one.size
 }

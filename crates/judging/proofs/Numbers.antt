@@ -8,10 +8,10 @@ use native.Mathlib.Omega.{arith}
 use lib.ListN.{length, getD, take, set, replicate, length-replicate, length-set}
 use lib.Seq.{length-take-le, take-suc-set}
 use Rattle.base.specs.Lists.{keep, from, upTo}
-use Rattle.around.specs.Build.{Within}
-use Rattle.cells.specs.Rows.{owns, ownNumbers}
+use Rattle.tets_around.specs.between.Build.{Within}
+use Rattle.cells.specs.between.Rows.{owns, ownNumbers}
 use Rattle.filling.specs.declared.Tets.{Tets}
-use Rattle.filling.specs.Found.{Found}
+use Rattle.filling.specs.between.Numbered.{Numbered}
 use Rattle.filling.proofs.Found.{keep-more, keep-skip}
 
 -- a kept number is one of those that it was kept of
@@ -25,8 +25,8 @@ kept-below b (suc k) i j h = go (b i) j h (kept-below b k (suc i))
     go true (suc j) h r = omega (arith, r j (omega arith))
     go false j h r = omega (arith, r j h)
 
-pub found-as : {xs ys : List ℕ} {f : Tets} → xs ≡ ys → Found xs f → Found ys f
-found-as {f = f} e h = subst (λ l. Found l f) e h
+pub found-as : {xs ys : List ℕ} {f : Tets} → xs ≡ ys → Numbered xs f → Numbered ys f
+found-as {f = f} e h = subst (λ l. Numbered l f) e h
 
 module _ (ls ps : List ℕ) (qs : List (List ℕ)) (c : List ℕ) where
   pub numbers-within : Within (length ls / 4) (ownNumbers ls qs c)

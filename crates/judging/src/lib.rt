@@ -8,12 +8,12 @@ use space::Tet;
 ghost use mathlib.Core.Path.{_≡_};
 ghost use Prim.Native.Nat.{_*_, _/_, _≤_};
 ghost use lib.ListN.{length};
-ghost use Rattle.around.specs.Build.{Within};
-ghost use Rattle.cells.specs.Rows.{ownNumbersBy};
+ghost use Rattle.tets_around.specs.between.Build.{Within};
+ghost use Rattle.cells.specs.between.Rows.{ownNumbersBy};
 ghost use Rattle.record.specs.Entries.{tetPlaces};
-ghost use Rattle.filling.specs.Found.{Found};
-ghost use Rattle.counting.specs.Noted.{Lettered};
-ghost use Rattle.judging.specs.Last.{lastWith, lastFailing};
+ghost use Rattle.filling.specs.between.Numbered.{Numbered};
+ghost use Rattle.counting.specs.between.Bits.{Lettered};
+ghost use Rattle.judging.specs.between.Last.{lastWith, lastFailing};
 
 // By the tetrahedra listed, with room for 8 entries a tetrahedron.
 fn judge_list(
@@ -88,7 +88,7 @@ fn judge_few(
     quads: &[u8],
     within: &[u8],
 ) -> u8
-    requires { ⌜ Found (ownNumbersBy (now labels) (now quads) (now c)) found
+    requires { ⌜ Numbered (ownNumbersBy (now labels) (now quads) (now c)) found
         × ((found .count ≤ tetPlaces) × (length (now parts) ≡ length (now labels) / 4)) ⌝ }
     requires { ⌜ Lettered (now triangles) (now quads) (now within) ⌝ }
     ensures { λ r. ⌜ r ≡ lastFailing (now (labels .entry)) (now (parts .entry)) (now (c .entry))
@@ -119,7 +119,7 @@ pub fn judge_found(
     quads: &[u8],
     within: &[u8],
 ) -> u8
-    requires { ⌜ Found (ownNumbersBy (now labels) (now quads) (now c)) found ⌝ }
+    requires { ⌜ Numbered (ownNumbersBy (now labels) (now quads) (now c)) found ⌝ }
     requires { ⌜ (length (now labels) / 4 ≤ 2048) × (length (now parts) ≡ length (now labels) / 4) ⌝ }
     requires { ⌜ Lettered (now triangles) (now quads) (now within) ⌝ }
     ensures { λ r. ⌜ r ≡ lastFailing (now (labels .entry)) (now (parts .entry)) (now (c .entry))

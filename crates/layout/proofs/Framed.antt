@@ -10,7 +10,8 @@ use borrow.Author.Tests.{leb-true, eqb-true}
 use Rattle.base.proofs.Bools.{and-left, and-right}
 use Rattle.base.proofs.Loop.{length-up}
 use Rattle.layout.specs.Bytes.{u16At, u32At, i32At}
-use Rattle.layout.specs.Layout.{vertices, tets, lengthRight, countsRight, layoutRight, Framed, coordsIn, labelsIn, partsIn}
+use Rattle.layout.specs.Layout.{vertices, tets, lengthRight, countsRight, layoutRight, coordsIn, labelsIn, partsIn}
+use Rattle.layout.specs.between.Framed.{Framed}
 
 -- ---- the tests of the header, one by one
 

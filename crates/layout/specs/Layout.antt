@@ -1,8 +1,7 @@
 -- A mesh file: its header with what is asked of it (refusals 1 to 3), its two parts, and what they say.
 -- f is the list of the file's bytes.
 -- Assumes nothing.
-use Prim.Native.Nat.{ℕ, _+_, _*_, _/_, _%_, _≤_}
-use mathlib.Core.Path.{_≡_}
+use Prim.Native.Nat.{ℕ, _+_, _*_, _/_, _%_}
 use mathlib.Core.List.{List, map}
 use mathlib.Core.Bool.{Bool, _&&_}
 use lib.ListN.{length, drop}
@@ -36,14 +35,6 @@ layoutRight f =
     && eqb (u32At f 12) (24 + 12 * vertices f)
     && eqb (u32At f 16) (24 + 12 * vertices f + 10 * tets f)
     && eqb (u32At f 20) 0
-
--- what a header that is not refused tells: n vertices and t tetrahedra, which fill the file to its end
-pub record Framed (f : List ℕ) (n t : ℕ) : Type 0 where
-  pub vertex : n ≡ vertices f
-  pub tet : t ≡ tets f
-  pub fewVertices : n ≤ 512
-  pub fewTets : t ≤ 2048
-  pub whole : 24 + 12 * n + 10 * t ≡ length f
 
 -- ---- the vertex part: three signed numbers of 32 bits a vertex
 

@@ -13,7 +13,7 @@ use Rattle.base.specs.Lists.{all, any, every, keep, upTo, distinct, equal}
 use Rattle.base.proofs.Bools.{or-either}
 use Rattle.base.proofs.Lists.{both-left, both-right, all-at, all-from, any-at, keep-map}
 use Rattle.templates.specs.Tables.{Template, templates, at}
-use Rattle.least.specs.Least.{rises, risesAt, isLeast}
+use Rattle.least.specs.Least.{firstIsLess, risesAt, isLeast}
 use Rattle.templates.proofs.Tests.{equal-eq, part, or-comm, inRange, at-at, at-all, distinct-at}
 use Rattle.least.proofs.Turns.{keeps, cornerTests, tableTests, even, row-keeps, row-corners, turned-distinct, turned-at, turned-length}
 
@@ -156,11 +156,11 @@ unfolding hasLeast pairwise clash clashTests descends descendTests stepsTo equal
 leasts = refl
 
 module _ (t : Template) (c : List ℕ) where
-  rises-at : (r p : List ℕ) → equal (at p (0 ∷ 1 ∷ [])) p ≡ true → inRange (length r) p ≡ true → rises (at (at c r) p) ≡ rises (at c (at r (at p (0 ∷ 1 ∷ []))))
-  rises-at r p e h = ap rises (at-at c r p h ∙ ap (λ x. at c (at r x)) (sym (equal-eq _ p e)))
+  rises-at : (r p : List ℕ) → equal (at p (0 ∷ 1 ∷ [])) p ≡ true → inRange (length r) p ≡ true → firstIsLess (at (at c r) p) ≡ firstIsLess (at c (at r (at p (0 ∷ 1 ∷ []))))
+  rises-at r p e h = ap firstIsLess (at-at c r p h ∙ ap (λ x. at c (at r x)) (sym (equal-eq _ p e)))
 
   not-two : (r s : List ℕ) → clash t r s ≡ true → isLeast t (at c r) ≡ true → isLeast t (at c s) ≡ true → ⊥
-  unfolding clash clashTests isLeast risesAt rises
+  unfolding clash clashTests isLeast risesAt firstIsLess
   not-two r s e h k =
       let p = any-at _ (t .less) e in
       let q = any-at _ (t .less) (p .2) in
@@ -168,11 +168,11 @@ module _ (t : Template) (c : List ℕ) where
       let tests = clashTests r s x (q .0) in
       let i = getD c (getD r (getD x 0 0) 0) 0 in
       let j = getD c (getD r (getD x 1 0) 0) 0 in
-      let up : ltb i j ≡ true = sym (rises-at r x (part tests (q .2) 0) (part tests (q .2) 1)) ∙ all-at (λ x. rises (at (at c r) x)) (t .less) h (p .1) in
+      let up : ltb i j ≡ true = sym (rises-at r x (part tests (q .2) 0) (part tests (q .2) 1)) ∙ all-at (λ x. firstIsLess (at (at c r) x)) (t .less) h (p .1) in
       let down : ltb j i ≡ true =
-      ap (λ x. rises (at c x)) (sym (equal-eq (at s (q .0)) (at r (at x (1 ∷ 0 ∷ []))) (part tests (q .2) 3)))
-      ∙ ap rises (sym (at-at c s (q .0) (part tests (q .2) 2)))
-      ∙ all-at (λ x. rises (at (at c s) x)) (t .less) k (q .1) in
+      ap (λ x. firstIsLess (at c x)) (sym (equal-eq (at s (q .0)) (at r (at x (1 ∷ 0 ∷ []))) (part tests (q .2) 3)))
+      ∙ ap firstIsLess (sym (at-at c s (q .0) (part tests (q .2) 2)))
+      ∙ all-at (λ x. firstIsLess (at (at c s) x)) (t .less) k (q .1) in
       let a = ltb-true i j up in
       let b = ltb-true j i down in
       omega arith
@@ -188,10 +188,10 @@ module _ (t : Template) (c : List ℕ) where
 
   -- a row at which the tuple is least in the lexical order gives the least form
   is-least : (r : List ℕ) → keeps t r ≡ true → descends t r ≡ true → length c ≡ t .corners → distinct c ≡ true → Least (at c) r (t .turns) → isLeast t (at c r) ≡ true
-  unfolding isLeast risesAt descends descendTests Least rises
+  unfolding isLeast risesAt descends descendTests Least firstIsLess
   is-least r k d l n w = all-from _ (t .less) (λ p h. one p (all-at _ (t .less) d h))
     where
-      one : (p : List ℕ) → every (descendTests t r p) ≡ true → rises (at (at c r) p) ≡ true
+      one : (p : List ℕ) → every (descendTests t r p) ≡ true → firstIsLess (at (at c r) p) ≡ true
       one p e =
           let tests = descendTests t r p in
           let h : inRange (length r) (at p (0 ∷ 1 ∷ [])) ≡ true = ap (inRange (length r)) (equal-eq _ p (part tests e 0)) ∙ part tests e 1 in

@@ -9,12 +9,12 @@ use Rattle.base.specs.Lists.{all}
 use Rattle.templates.specs.Tables.{Template, at}
 
 -- the first is less than the second
-unfoldable pub rises : List ℕ → Bool
-rises vs = ltb (getD vs 0 0) (getD vs 1 0)
+unfoldable pub firstIsLess : List ℕ → Bool
+firstIsLess vs = ltb (getD vs 0 0) (getD vs 1 0)
 
 -- of each of these pairs of corners the first is less
 unfoldable pub risesAt : List (List ℕ) → List ℕ → Bool
-risesAt ps c = all (λ p. rises (at c p)) ps
+risesAt ps c = all (λ p. firstIsLess (at c p)) ps
 
 -- kind 8: a the least of all, b less than d and e; kind 6: a the least of all; kind 5: a the least of a, b, c, d
 unfoldable pub isLeast : Template → List ℕ → Bool

@@ -9,13 +9,13 @@ ghost use mathlib.Core.Path.{_≡_};
 ghost use Prim.Native.Nat.{_/_, _≤_, _<_};
 ghost use lib.ListN.{length};
 ghost use Rattle.templates.specs.Tables.{templateOf, tupleOf, at};
-ghost use Rattle.templates.specs.Flat.{pairAt, pairs};
-ghost use Rattle.least.specs.Least.{rises, risesAt, isLeast};
+ghost use Rattle.templates.specs.between.Flat.{pairAt, pairs};
+ghost use Rattle.least.specs.Least.{firstIsLess, risesAt, isLeast};
 
 // Pair i of the table is a lesser vertex and a greater.
 fn rises_at(c: &[u16], less: &[u8], i: usize) -> bool
     requires { ⌜ i < length (now less) / 2 ⌝ }
-    ensures { λ r. ⌜ r ≡ rises (at (now (c .entry)) (pairAt (now (less .entry)) i)) ⌝ }
+    ensures { λ r. ⌜ r ≡ firstIsLess (at (now (c .entry)) (pairAt (now (less .entry)) i)) ⌝ }
 {
     let at = 2 * i;
     corner(c, less[at]) < corner(c, less[at + 1])

@@ -1,6 +1,6 @@
 -- What the code asks of the constant tables, by computed tests.
 -- Assumes nothing.
-use Prim.Native.Nat.{ℕ, zero, suc, _+_, _-_, _*_, _<_, _≤_}
+use Prim.Native.Nat.{ℕ, zero, suc, _+_, _-_, _*_, _<_}
 use mathlib.Core.Path.{_≡_, refl}
 use mathlib.Core.Bool.{Bool, true, _&&_}
 use mathlib.Core.List.{List, [], _∷_}
@@ -11,7 +11,7 @@ use lib.ListN.{length, getD, take, drop}
 use Rattle.base.specs.Lists.{all, upTo}
 use Rattle.base.proofs.Lists.{both-left, both-right, all-at}
 use Rattle.base.proofs.Members.{from-has}
-use Rattle.levels.specs.Levels.{trianglesAt, quadsAt, triplesAt, lesser, joined, also, third, ahead, look, levels, Cut}
+use Rattle.levels.specs.between.Levels.{trianglesAt, quadsAt, triplesAt, lesser, joined, also, third, ahead, look, levels, Cut}
 
 pub entry-below : (n : ℕ) (l : List ℕ) → 0 < n → all (λ y. ltb y n) l ≡ true → (i : ℕ) → getD l i 0 < n
 entry-below n [] z e i = z

@@ -12,13 +12,13 @@ use Rattle.base.specs.Lists.{all, any, upTo, isIn}
 use Rattle.base.proofs.Lists.{both-left, both-right, all-at}
 use Rattle.base.proofs.Members.{from-has}
 use Rattle.templates.specs.Tables.{Template, hexahedron, prism, pyramid, templateOf, at}
-use Rattle.cells.specs.Cells.{first, second}
-use Rattle.levels.specs.Levels.{base, lesser, look}
+use Rattle.cells.specs.Cells.{oneDiagonal, otherDiagonal}
+use Rattle.levels.specs.between.Levels.{base, lesser, look}
 
 -- sets of triangles one of which is facets: of each quadrilateral those of a diagonal,
 -- and all of the triangles together
 unfoldable pub ways : Template → List (List (List (List ℕ)))
-ways t = map (λ q. first q ∷ second q ∷ []) (t .quads) ++ ((t .triangles ∷ []) ∷ [])
+ways t = map (λ q. oneDiagonal q ∷ otherDiagonal q ∷ []) (t .quads) ++ ((t .triangles ∷ []) ∷ [])
 
 -- some triangle has all of ks, by places
 unfoldable pub covered : Template → List ℕ → List (List ℕ) → Bool
@@ -44,15 +44,15 @@ unfoldable areAhead : Template → ℕ → Bool
 areAhead t b = all (λ d. isAhead t (b + d) d) (upTo (t .corners))
 
 ahead8 : areAhead hexahedron 0 ≡ true
-unfolding ways covered linked follows isAhead areAhead first second
+unfolding ways covered linked follows isAhead areAhead oneDiagonal otherDiagonal
 ahead8 = refl
 
 ahead6 : areAhead prism 8 ≡ true
-unfolding ways covered linked follows isAhead areAhead first second
+unfolding ways covered linked follows isAhead areAhead oneDiagonal otherDiagonal
 ahead6 = refl
 
 ahead5 : areAhead pyramid 14 ≡ true
-unfolding ways covered linked follows isAhead areAhead first second
+unfolding ways covered linked follows isAhead areAhead oneDiagonal otherDiagonal
 ahead5 = refl
 
 all-ahead : (k : ℕ) → areAhead (templateOf k) (base k) ≡ true
@@ -112,16 +112,16 @@ pub record Sides (t : Template) (a b : ℕ) : Type 0 where
   pub two : follows t (3 ∷ b ∷ []) 0 1 2 3 ≡ true
 
 sides8 : Sides hexahedron 6 5
-unfolding ways covered linked follows first second
+unfolding ways covered linked follows oneDiagonal otherDiagonal
 sides8 = record { one = refl; two = refl }
 
 sides6 : Sides prism 5 4
-unfolding ways covered linked follows first second
+unfolding ways covered linked follows oneDiagonal otherDiagonal
 sides6 = record { one = refl; two = refl }
 
 -- and place 2 follows the places 0 and 1 by itself or by place 4
 low8 : follows hexahedron (2 ∷ 4 ∷ []) 0 1 1 2 ≡ true
-unfolding ways covered linked follows first second
+unfolding ways covered linked follows oneDiagonal otherDiagonal
 low8 = refl
 
 -- place 2 of the pyramid follows the places 1 and 0 by the apex, and by another corner
@@ -130,7 +130,7 @@ pub record Twice (t : Template) : Type 0 where
   pub side : follows t (2 ∷ 3 ∷ []) 1 0 0 2 ≡ true
 
 twice5 : Twice pyramid
-unfolding ways covered linked follows first second
+unfolding ways covered linked follows oneDiagonal otherDiagonal
 twice5 = record { apex = refl; side = refl }
 
 -- row 3 is place 3 of the hexahedron

@@ -3,21 +3,20 @@
 -- Assumes nothing.
 use Prim.Native.Nat.{ℕ, zero, suc, _+_, _<_, _≤_}
 use mathlib.Core.Path.{_≡_, refl, sym, _∙_, ap, ap₂}
-use mathlib.Core.Logic.{_⊎_, inl, inr}
-use mathlib.Core.Bool.{Bool, true, false, cond, _&&_, _||_, false≢true}
-use mathlib.Core.List.{List, [], _∷_, map, List·Memᴰ}
+use mathlib.Core.Bool.{Bool, true, false, cond, _&&_, _||_}
+use mathlib.Core.List.{List, [], _∷_, map}
 use native.Mathlib.Omega.{arith}
 use borrow.Author.Tests.{eqb-true, ltb-true, leb-true}
 use lib.Dec.{eqb, ltb, leb}
-use lib.ListN.{length, getD, length-map}
+use lib.ListN.{length, getD}
 use Rattle.base.specs.Lists.{all, any, from, upTo, equal}
 use Rattle.base.proofs.Lists.{both-left, both-right, all-at, any-at}
-use Rattle.base.proofs.Loop.{listed, getD-up, length-up}
+use Rattle.base.proofs.Loop.{listed}
 use Rattle.base.proofs.Members.{from-has}
-use Rattle.templates.specs.Tables.{Template, Place, place, hexahedron, prism, pyramid, templateOf, at}
-use Rattle.cells.specs.Rows.{threes, fours}
-use Rattle.portions.specs.Tuples.{Agree}
-use Rattle.levels.specs.Levels.{base, trianglesAt, quadsAt, triplesAt, lesser, joined, also, third, part, levels}
+use Rattle.templates.specs.Tables.{Template, placing, hexahedron, prism, pyramid, templateOf, at}
+use Rattle.cells.specs.between.Rows.{threes, fours}
+use Rattle.portions.specs.between.Tuples.{Agree}
+use Rattle.levels.specs.between.Levels.{base, trianglesAt, quadsAt, triplesAt, lesser, joined, also, third, part, levels}
 
 -- row r, by places, is the template's row q of w corners, and lies within the places up to d
 unfoldable pub isRow : ℕ → Template → ℕ → List ℕ → List ℕ → Bool
@@ -43,7 +42,7 @@ isRight t x d =
     areRows 3 t d (threes (part levels trianglesAt x)) (t .triangles)
     && (areRows 4 t d (fours (part levels quadsAt x)) (t .quads)
     && (areRows 4 t d (fours (part levels triplesAt x)) (t .triples)
-    && ((leb (getD lesser x 0) d && equal (getD (t .search) d (place [] []) .below) (upTo (getD lesser x 0))) && (eqb d 0 || all (λ l. joins t (getD l x 0) d) joinedBy))))
+    && ((leb (getD lesser x 0) d && equal (getD (t .search) d (placing [] []) .below) (upTo (getD lesser x 0))) && (eqb d 0 || all (λ l. joins t (getD l x 0) d) joinedBy))))
 
 unfoldable areRight : Template → ℕ → Bool
 areRight t b = all (λ d. isRight t (b + d) d) (upTo (t .corners))
@@ -80,7 +79,7 @@ pub record Right (t : Template) (x d : ℕ) : Type 0 where
   pub ofQuads : areRows 4 t d (fours (part levels quadsAt x)) (t .quads) ≡ true
   pub ofTriples : areRows 4 t d (fours (part levels triplesAt x)) (t .triples) ≡ true
   pub ofLesser : getD lesser x 0 ≤ d
-  pub ofBelow : getD (t .search) d (place [] []) .below ≡ upTo (getD lesser x 0)
+  pub ofBelow : getD (t .search) d (placing [] []) .below ≡ upTo (getD lesser x 0)
   pub ofJoined : (eqb d 0 || all (λ l. joins t (getD l x 0) d) joinedBy) ≡ true
 
 pub right-at : (k d : ℕ) → d < templateOf k .corners → Right (templateOf k) (base k + d) d
@@ -92,14 +91,14 @@ right-at k d h =
     let e1 = both-right (areRows 3 t d (threes (part levels trianglesAt x)) (t .triangles)) _ e in
     let e2 = both-right (areRows 4 t d (fours (part levels quadsAt x)) (t .quads)) _ e1 in
     let e3 = both-right (areRows 4 t d (fours (part levels triplesAt x)) (t .triples)) _ e2 in
-    let e4 = both-left (leb (getD lesser x 0) d && equal (getD (t .search) d (place [] []) .below) (upTo (getD lesser x 0))) _ e3 in
+    let e4 = both-left (leb (getD lesser x 0) d && equal (getD (t .search) d (placing [] []) .below) (upTo (getD lesser x 0))) _ e3 in
     record {
       ofTriangles = both-left _ _ e;
       ofQuads = both-left _ _ e1;
       ofTriples = both-left _ _ e2;
       ofLesser = leb-true _ _ (both-left (leb (getD lesser x 0) d) _ e4);
       ofBelow = equal-eq _ _ (both-right (leb (getD lesser x 0) d) _ e4);
-      ofJoined = both-right (leb (getD lesser x 0) d && equal (getD (t .search) d (place [] []) .below) (upTo (getD lesser x 0))) _ e3;
+      ofJoined = both-right (leb (getD lesser x 0) d && equal (getD (t .search) d (placing [] []) .below) (upTo (getD lesser x 0))) _ e3;
     }
 
 -- ── rows ──

@@ -5,7 +5,7 @@
 mod rows;
 
 use cells::is_sound;
-use marks::faces_noted;
+use facet_hints::faces_hinted;
 use rows::LEVELS;
 use space::Vertex;
 use templates::is_in;
@@ -14,11 +14,11 @@ ghost use Prim.Native.Nat.{_+_, _<_, _≤_};
 ghost use lib.Dec.{ltb};
 ghost use lib.ListN.{length, getD};
 ghost use Rattle.base.specs.Lists.{all, upTo};
-ghost use Rattle.space.specs.Arrays.{Close};
-ghost use Rattle.cells.specs.Rows.{threes, fours, soundBy};
-ghost use Rattle.marks.specs.Marks.{places, facesNoted};
-ghost use Rattle.levels.specs.Levels.{lesser, joined, also, third, look, part, levelTriangles, levelQuads, levelTriples, levels, Cut};
-ghost use Rattle.levels.specs.Fits.{comesAfter, fits, Placed, fitsWith};
+ghost use Rattle.space.specs.between.Working.{Close};
+ghost use Rattle.cells.specs.between.Rows.{threes, fours, soundBy};
+ghost use Rattle.facet_hints.specs.between.Hints.{hintPlaces, facesHinted};
+ghost use Rattle.levels.specs.between.Levels.{lesser, joined, also, third, look, part, levelTriangles, levelQuads, levelTriples, levels, Cut};
+ghost use Rattle.levels.specs.between.Passing.{isNewAbove, passesLevel, Placed, passesWith};
 
 // A place of a tuple: the tuple, in search order, the row of the tables of the levels, and which place it is.
 pub struct Place {
@@ -44,7 +44,7 @@ const THIRD: usize = 247;
 
 const AHEAD: usize = 266;
 
-// The tables, once for a search.
+// The tables, once for a portion.
 pub fn tables() -> [u8; 380]
     ensures { λ r. ⌜ r ≡ levels ⌝ }
 {
@@ -125,10 +125,10 @@ pub fn is_above(s: &[u16], count: usize, v: Vertex) -> bool
 }
 
 // The vertex at place d is new, and above those that it must be above.
-fn comes_after(tables: &[u8], s: &[u16], x: usize, d: usize) -> bool
+fn is_new_above(tables: &[u8], s: &[u16], x: usize, d: usize) -> bool
     requires { ⌜ now tables ≡ levels ⌝ }
     requires { ⌜ (x < 19) × ((d < length (now s)) × (2 ≤ length (now s))) ⌝ }
-    ensures { λ r. ⌜ r ≡ comesAfter x d (now (s .entry)) ⌝ }
+    ensures { λ r. ⌜ r ≡ isNewAbove x d (now (s .entry)) ⌝ }
 {
     let v = s[d];
     if is_in(v, &s[..d]) {
@@ -149,38 +149,38 @@ fn sound_part(coords: &[i64], s: &[u16], rows: &[u8], starts: &[u8], x: usize) -
 
 // The faces of a part of the tables may be faces of the mesh.
 fn faces_part(
-    marks: &[u8],
+    hints: &[u8],
     s: &[u16],
     rows: &[u8],
     triangles: &[u8],
     quads: &[u8],
     x: usize,
 ) -> bool
-    requires { ⌜ length (now marks) ≡ places ⌝ }
+    requires { ⌜ length (now hints) ≡ hintPlaces ⌝ }
     requires { ⌜ Cut (now rows) (now triangles) x × Cut (now rows) (now quads) x ⌝ }
-    ensures { λ r. ⌜ r ≡ facesNoted (now (marks .entry)) (now (s .entry))
+    ensures { λ r. ⌜ r ≡ facesHinted (now (hints .entry)) (now (s .entry))
         (threes (part (now (rows .entry)) (now (triangles .entry)) x)) (fours (part (now (rows .entry)) (now (quads .entry)) x)) ⌝ }
 {
     let from = entry_of(triangles, x);
     let end = entry_of(triangles, x + 1);
     let low = entry_of(quads, x);
     let high = entry_of(quads, x + 1);
-    faces_noted(marks, s, &rows[from..end], &rows[low..high])
+    faces_hinted(hints, s, &rows[from..end], &rows[low..high])
 }
 
-fn sound_at(tables: &[u8], coords: &[i64], s: &[u16], x: usize) -> bool
+fn boxes_at(tables: &[u8], coords: &[i64], s: &[u16], x: usize) -> bool
     requires { ⌜ (now tables ≡ levels) × (Close (now coords) × (x < 19)) ⌝ }
     ensures { λ r. ⌜ r ≡ soundBy (now (coords .entry)) (now (s .entry)) (levelTriples x) ⌝ }
 {
     sound_part(coords, s, tables, &tables[TRIPLES_AT..LESSER], x)
 }
 
-fn faces_at(tables: &[u8], marks: &[u8], s: &[u16], x: usize) -> bool
-    requires { ⌜ (now tables ≡ levels) × ((length (now marks) ≡ places) × (x < 19)) ⌝ }
-    ensures { λ r. ⌜ r ≡ facesNoted (now (marks .entry)) (now (s .entry)) (levelTriangles x) (levelQuads x) ⌝ }
+fn faces_at(tables: &[u8], hints: &[u8], s: &[u16], x: usize) -> bool
+    requires { ⌜ (now tables ≡ levels) × ((length (now hints) ≡ hintPlaces) × (x < 19)) ⌝ }
+    ensures { λ r. ⌜ r ≡ facesHinted (now (hints .entry)) (now (s .entry)) (levelTriangles x) (levelQuads x) ⌝ }
 {
     faces_part(
-        marks,
+        hints,
         s,
         tables,
         &tables[TRIANGLES_AT..QUADS_AT],
@@ -190,30 +190,30 @@ fn faces_at(tables: &[u8], marks: &[u8], s: &[u16], x: usize) -> bool
 }
 
 // The tuple passes the test of the level of place d: the cheap parts first.
-fn passes(tables: &[u8], coords: &[i64], marks: &[u8], s: &[u16], x: usize, d: usize) -> bool
+fn passes(tables: &[u8], coords: &[i64], hints: &[u8], s: &[u16], x: usize, d: usize) -> bool
     requires { ⌜ now tables ≡ levels ⌝ }
-    requires { ⌜ Close (now coords) × (length (now marks) ≡ places) ⌝ }
+    requires { ⌜ Close (now coords) × (length (now hints) ≡ hintPlaces) ⌝ }
     requires { ⌜ (x < 19) × ((d < length (now s)) × (2 ≤ length (now s))) ⌝ }
-    ensures { λ r. ⌜ r ≡ fits (now (coords .entry)) (now (marks .entry)) x d (now (s .entry)) ⌝ }
+    ensures { λ r. ⌜ r ≡ passesLevel (now (coords .entry)) (now (hints .entry)) x d (now (s .entry)) ⌝ }
 {
-    if !comes_after(tables, s, x, d) {
+    if !is_new_above(tables, s, x, d) {
         return false;
     }
-    if !faces_at(tables, marks, s, x) {
+    if !faces_at(tables, hints, s, x) {
         return false;
     }
-    sound_at(tables, coords, s, x)
+    boxes_at(tables, coords, s, x)
 }
 
 // The tuple passes with v at the place.
-pub fn tries(tables: &[u8], coords: &[i64], marks: &[u8], p: Place, v: Vertex) -> bool
+pub fn passes_with(tables: &[u8], coords: &[i64], hints: &[u8], p: Place, v: Vertex) -> bool
     requires { ⌜ now tables ≡ levels ⌝ }
-    requires { ⌜ Close (now coords) × (length (now marks) ≡ places) ⌝ }
+    requires { ⌜ Close (now coords) × (length (now hints) ≡ hintPlaces) ⌝ }
     requires { ⌜ Placed p ⌝ }
-    ensures { λ r. ⌜ r ≡ fitsWith (now (coords .entry)) (now (marks .entry)) p (v .0) ⌝ }
+    ensures { λ r. ⌜ r ≡ passesWith (now (coords .entry)) (now (hints .entry)) p (v .0) ⌝ }
 {
     let mut s = p.tuple;
     let d = p.at;
     s[d] = v.0;
-    passes(tables, coords, marks, &s, p.row, d)
+    passes(tables, coords, hints, &s, p.row, d)
 }

@@ -3,7 +3,6 @@ use record::COUNT_AT;
 use record::TET_PLACES;
 use record::TETS_AT;
 ghost use mathlib.Core.Path.{_≡_};
-ghost use mathlib.Core.List.{[], _∷_};
 ghost use Prim.Native.Nat.{_+_, _*_, _≤_, min};
 ghost use lib.ListN.{length};
 ghost use Rattle.base.specs.Laid.{Laid};

@@ -1,7 +1,7 @@
 // The vertices that link the two ends of a face's three known corners: none, a single one, a pair, or more.
-use marks::is_noted;
-use neighbours::row_of;
-use reaching::Edge;
+use facet_hints::is_hinted;
+use neighbours::neighbour_row;
+use reaching::FaceEdge;
 use reaching::MANY;
 use reaching::may_link;
 use reaching::shorter;
@@ -10,10 +10,10 @@ ghost use mathlib.Core.Path.{_≡_};
 ghost use mathlib.Core.Logic.{_⊎_};
 ghost use mathlib.Core.Bool.{true};
 ghost use lib.ListN.{length};
-ghost use Rattle.marks.specs.Marks.{noted};
-ghost use Rattle.neighbours.specs.Reading.{Rowed};
-ghost use Rattle.reaching.specs.Reaching.{Lent, Links, ByRow};
-ghost use Rattle.linking.specs.Covers.{Only, Adds, LinkAt};
+ghost use Rattle.facet_hints.specs.between.Hints.{hinted};
+ghost use Rattle.neighbours.specs.between.Reading.{Rowed};
+ghost use Rattle.reaching.specs.between.Reaching.{Lent, Links, ByRow};
+ghost use Rattle.linking.specs.between.Met.{AllMet, Adds, LinkAt};
 
 // The linking vertices that were met: whether there are some, whether it is a single one, vertex, or a pair, vertex and
 // other. Of more, vertex is one with the most neighbours, or none, which is 65535. The choice is a matter of speed
@@ -31,8 +31,8 @@ pub fn fuller(n: usize, table: &[u16], x: Vertex, y: Vertex) -> Vertex
     requires { ⌜ Rowed n (now table) ⌝ }
     ensures { λ r. ⌜ (r ≡ x) ⊎ (r ≡ y) ⌝ }
 {
-    let p = row_of(n, table, x);
-    let q = row_of(n, table, y);
+    let p = neighbour_row(n, table, x);
+    let q = neighbour_row(n, table, y);
     if p.size < q.size { y } else { x }
 }
 
@@ -75,33 +75,33 @@ fn one_more(n: usize, table: &[u16], x: Vertex, s: Linking) -> Linking
 fn sole_at(
     n: usize,
     table: &[u16],
-    marks: &[u8],
-    e: Edge,
+    hints: &[u8],
+    e: FaceEdge,
     v: Vertex,
     x: Vertex,
     s: Linking,
 ) -> Linking
-    requires { ⌜ Lent n (now table) (now marks) ⌝ }
-    ensures { λ r. ⌜ Adds (LinkAt n (now (table .entry)) (now (marks .entry)) e (v .0) (x .0)) s r ⌝ }
+    requires { ⌜ Lent n (now table) (now hints) ⌝ }
+    ensures { λ r. ⌜ Adds (LinkAt n (now (table .entry)) (now (hints .entry)) e (v .0) (x .0)) s r ⌝ }
 {
     if !may_link(e, x) {
         return s;
     }
     let u = e.u;
     let w = e.w;
-    if !is_noted(marks, u, x, v) {
+    if !is_hinted(hints, u, x, v) {
         return s;
     }
-    if is_noted(marks, u, w, x) {
+    if is_hinted(hints, u, w, x) {
         return one_more(n, table, x, s);
     }
     s
 }
 
 // The same for each entry x of a row.
-fn sole_row(n: usize, table: &[u16], marks: &[u8], row: &[u16], e: Edge, v: Vertex) -> Linking
-    requires { ⌜ Lent n (now table) (now marks) ⌝ }
-    ensures { λ r. ⌜ Only (ByRow (LinkAt n (now (table .entry)) (now (marks .entry)) e (v .0)) (now (row .entry)) (length (now (row .entry)))) r ⌝ }
+fn sole_row(n: usize, table: &[u16], hints: &[u8], row: &[u16], e: FaceEdge, v: Vertex) -> Linking
+    requires { ⌜ Lent n (now table) (now hints) ⌝ }
+    ensures { λ r. ⌜ AllMet (ByRow (LinkAt n (now (table .entry)) (now (hints .entry)) e (v .0)) (now (row .entry)) (length (now (row .entry)))) r ⌝ }
 {
     let mut s = Linking {
         some: false,
@@ -112,17 +112,17 @@ fn sole_row(n: usize, table: &[u16], marks: &[u8], row: &[u16], e: Edge, v: Vert
     };
     let mut k = 0;
     while k < row.len() {
-        s = sole_at(n, table, marks, e, v, Vertex(row[k]), s);
+        s = sole_at(n, table, hints, e, v, Vertex(row[k]), s);
         k += 1;
     }
     s
 }
 
-// The vertices that link w and v at u. None of them is left out; one that the marks merely do not exclude may be
+// The vertices that link w and v at u. None of them is left out; one that the hints merely do not exclude may be
 // counted too. Where there are many to look through, it is said that there may be several, and vertex is no vertex.
-pub fn sole(n: usize, table: &[u16], marks: &[u8], e: Edge, v: Vertex) -> Linking
-    requires { ⌜ Lent n (now table) (now marks) ⌝ }
-    ensures { λ r. ⌜ Only (λ x. Links n (now (table .entry)) (now (marks .entry)) e x (v .0)) r ⌝ }
+pub fn sole(n: usize, table: &[u16], hints: &[u8], e: FaceEdge, v: Vertex) -> Linking
+    requires { ⌜ Lent n (now table) (now hints) ⌝ }
+    ensures { λ r. ⌜ AllMet (λ x. Links n (now (table .entry)) (now (hints .entry)) e x (v .0)) r ⌝ }
 {
     let u = e.u;
     let w = e.w;
@@ -138,14 +138,14 @@ pub fn sole(n: usize, table: &[u16], marks: &[u8], e: Edge, v: Vertex) -> Linkin
     }
     let from = row.from;
     let end = from + row.size;
-    sole_row(n, table, marks, &table[from..end], e, v)
+    sole_row(n, table, hints, &table[from..end], e, v)
 }
 
 // Of the vertices that may make a facet with u and w, one with the most neighbours; where there is none or both have
 // many, no vertex.
-pub fn fullest(n: usize, table: &[u16], marks: &[u8], u: Vertex, w: Vertex) -> Vertex
-    requires { ⌜ Lent n (now table) (now marks) ⌝ }
-    ensures { λ r. ⌜ (r .0 ≡ 65535) ⊎ (noted (now (marks .entry)) (u .0) (w .0) (r .0) ≡ true) ⌝ }
+pub fn fullest(n: usize, table: &[u16], hints: &[u8], u: Vertex, w: Vertex) -> Vertex
+    requires { ⌜ Lent n (now table) (now hints) ⌝ }
+    ensures { λ r. ⌜ (r .0 ≡ 65535) ⊎ (hinted (now (hints .entry)) (u .0) (w .0) (r .0) ≡ true) ⌝ }
 {
     let row = shorter(n, table, u, w);
     if MANY < row.size {
@@ -157,7 +157,7 @@ pub fn fullest(n: usize, table: &[u16], marks: &[u8], u: Vertex, w: Vertex) -> V
     let mut p = Vertex(65535);
     let mut k = 0;
     while k < part.len() {
-        if is_noted(marks, u, w, Vertex(part[k])) {
+        if is_hinted(hints, u, w, Vertex(part[k])) {
             p = fuller(n, table, Vertex(part[k]), p);
         }
         k += 1;

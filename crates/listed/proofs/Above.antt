@@ -15,8 +15,8 @@ use Rattle.base.proofs.Members.{from-has}
 use Rattle.space.specs.Arrays.{meshOf}
 use Rattle.templates.specs.Tables.{templateOf, at}
 use Rattle.least.specs.Least.{isLeast}
-use Rattle.rule.specs.Rule.{isLeaf}
-use Rattle.levels.specs.Levels.{base, lesser}
+use Rattle.rule.specs.between.Leaf.{isLeaf}
+use Rattle.levels.specs.between.Levels.{base, lesser}
 use Rattle.listed.proofs.Leaves.{aboveAll, least-is}
 
 pub leaf-above : (zs : List ℤ) (ls ps : List ℕ) (k : ℕ) (s : List ℕ) → isLeaf (meshOf zs ls ps) (templateOf k) s ≡ true → (y : ℕ) → y < templateOf k .corners → (j : ℕ) → j < getD lesser (base k + y) 0 → getD s j 0 < getD s y 0

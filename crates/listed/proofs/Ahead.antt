@@ -3,8 +3,8 @@
 use Prim.Native.Nat.{ℕ, _+_, _<_, _≤_}
 use mathlib.Core.Path.{_≡_, refl, sym, _∙_, ap, fun-ext}
 use mathlib.Core.Logic.{_⊎_, inl, inr, ⊎-elim}
-use mathlib.Core.Bool.{Bool, true, false, not, cond, _&&_, _||_, false≢true, true≢false}
-use mathlib.Core.List.{List, [], _∷_, _++_, map, List·Memᴰ, List·Memᴰ·head, List·Memᴰ·tail}
+use mathlib.Core.Bool.{Bool, true, false, not, cond, _&&_, _||_, false≢true}
+use mathlib.Core.List.{List, [], _∷_, map, List·Memᴰ, List·Memᴰ·head, List·Memᴰ·tail}
 use native.Mathlib.Omega.{arith}
 use borrow.Author.Tests.{eqb-true, eqb-false, ne-eqb, ltb-true, lt-ltb, le-leb, not-true}
 use lib.Dec.{eqb, ltb}
@@ -16,17 +16,18 @@ use Rattle.base.proofs.Lists.{both-left, both-right, all-at, any-at}
 use Rattle.base.proofs.Members.{all-map, all-both}
 use Rattle.space.specs.Mesh.{Mesh, together, holds}
 use Rattle.space.specs.Arrays.{meshOf}
-use Rattle.around.proofs.Around.{together-in}
-use Rattle.around.specs.Index.{Labelled, togetherIn}
-use Rattle.neighbours.specs.Reading.{Tabled}
-use Rattle.marks.specs.Marks.{Marked}
-use Rattle.templates.specs.Tables.{Template, pyramid, templateOf, at}
-use Rattle.cells.specs.Cells.{first, second, isFacet, isSplit, hasFaces}
-use Rattle.rule.specs.Rule.{isLeaf}
-use Rattle.reaching.specs.Reaching.{mayLink, Closes, Links}
-use Rattle.levels.specs.Levels.{base, lesser, look}
-use Rattle.aims.specs.Aims.{edge, LinksFirst, Aims}
-use Rattle.hunting.specs.Goes.{floorOf, edgeAt, Follows}
+use Rattle.tets_around.proofs.Around.{together-in}
+use Rattle.tets_around.specs.between.Index.{Labelled}
+use Rattle.tets_around.specs.Sharing.{togetherIn}
+use Rattle.neighbours.specs.between.Reading.{Tabled}
+use Rattle.facet_hints.specs.between.Hints.{HintsOf}
+use Rattle.templates.specs.Tables.{Template, templateOf, at}
+use Rattle.cells.specs.Cells.{oneDiagonal, otherDiagonal, isFacet, isSplit, hasFaces}
+use Rattle.rule.specs.between.Leaf.{isLeaf}
+use Rattle.reaching.specs.between.Reaching.{mayLink, Closes, Links}
+use Rattle.levels.specs.between.Levels.{base, lesser, look}
+use Rattle.aims.specs.between.Aims.{faceEdge, LinksFirst, Aims}
+use Rattle.hunting.specs.between.Goes.{floorOf, faceEdgeAt, Follows}
 use Rattle.levels.proofs.Right.{at-place}
 use Rattle.levels.proofs.Following.{ways, covered, linked, follows, followsAny, ahead-at, follows-below, floored, Sides, Twice, RowThree, row-three, row-eleven, row-sixteen}
 use Rattle.listed.proofs.Prune.{leaf-faces, leaf-small}
@@ -111,9 +112,9 @@ module _ (zs : List ℤ) (ls ps : List ℕ) (k : ℕ) (s : List ℕ) (leaf : isL
   unfolding ways hasFaces isSplit
   ways-hold =
       let f = leaf-faces zs ls ps k s leaf in
-      all-both (any (all (isFacet m t c))) (map (λ q. first q ∷ second q ∷ []) (t .quads)) ((t .triangles ∷ []) ∷ [])
-      (all-map (any (all (isFacet m t c))) (λ q. first q ∷ second q ∷ []) (t .quads)
-      ∙ ap (λ p. all p (t .quads)) (fun-ext (λ q. ap (λ b. all (isFacet m t c) (first q) || b) (or-false (all (isFacet m t c) (second q)))))
+      all-both (any (all (isFacet m t c))) (map (λ q. oneDiagonal q ∷ otherDiagonal q ∷ []) (t .quads)) ((t .triangles ∷ []) ∷ [])
+      (all-map (any (all (isFacet m t c))) (λ q. oneDiagonal q ∷ otherDiagonal q ∷ []) (t .quads)
+      ∙ ap (λ p. all p (t .quads)) (fun-ext (λ q. ap (λ b. all (isFacet m t c) (oneDiagonal q) || b) (or-false (all (isFacet m t c) (otherDiagonal q)))))
       ∙ both-right (all (isFacet m t c) (t .triangles)) _ f)
       (rw (both-left (all (isFacet m t c) (t .triangles)) _ f))
 
@@ -184,24 +185,24 @@ module _ (zs : List ℤ) (ls ps : List ℕ) (k : ℕ) (s : List ℕ) (leaf : isL
       go true f = f refl
       go false f = omega arith
 
-  module _ {n : ℕ} {table ms : List ℕ} (labelled : Labelled ls n) (tabled : Tabled ls n table) (marked : Marked ls ms) where
-    links-by : {ys : List ℕ} {u w q d : ℕ} (l : Linking ys u w q d) (floor o p : ℕ) → u < d → d < templateOf k .corners → floor ≤ getD s (l .place) 0 → eqb (getD s (l .place) 0) o ≡ false → eqb (getD s (l .place) 0) p ≡ false → Links n table ms (edge (getD s u 0) (getD s w 0) floor o p (getD s q 0)) (getD s (l .place) 0) (getD s d 0)
+  module _ {n : ℕ} {table hs : List ℕ} (labelled : Labelled ls n) (tabled : Tabled ls n table) (hinted : HintsOf ls hs) where
+    links-by : {ys : List ℕ} {u w q d : ℕ} (l : Linking ys u w q d) (floor o p : ℕ) → u < d → d < templateOf k .corners → floor ≤ getD s (l .place) 0 → eqb (getD s (l .place) 0) o ≡ false → eqb (getD s (l .place) 0) p ≡ false → Links n table hs (faceEdge (getD s u 0) (getD s w 0) floor o p (getD s q 0)) (getD s (l .place) 0) (getD s d 0)
     unfolding mayLink
     links-by {ys} {u} {w} {q} {d} l floor o p i h f e g = record {
       may = rw (l .other, l .further, le-leb floor (getD s (l .place) 0) f, e, g, l .aside);
-      near = facet-faces labelled tabled marked (getD s u 0) (getD s w 0) (getD s (l .place) 0) (l .near) (l .other);
-      facet = facet-faces labelled tabled marked (getD s u 0) (getD s (l .place) 0) (getD s d 0) (l .facet) (leaf-apart zs ls ps k s leaf d u h (omega arith) (λ r. omega arith));
+      near = facet-faces labelled tabled hinted (getD s u 0) (getD s w 0) (getD s (l .place) 0) (l .near) (l .other);
+      facet = facet-faces labelled tabled hinted (getD s u 0) (getD s (l .place) 0) (getD s d 0) (l .facet) (leaf-apart zs ls ps k s leaf d u h (omega arith) (λ r. omega arith));
     }
 
     -- where the linking corner is neither o nor p
-    closes-by : {ys : List ℕ} {u w q d : ℕ} (x : ℕ) (l : Linking ys u w q d) (o p : ℕ) → u < d → d < templateOf k .corners → eqb (getD s (l .place) 0) o ≡ false → eqb (getD s (l .place) 0) p ≡ false → Closes n table ms (edge (getD s u 0) (getD s w 0) (floorOf s (base k + x)) o p (getD s q 0)) (getD s d 0)
+    closes-by : {ys : List ℕ} {u w q d : ℕ} (x : ℕ) (l : Linking ys u w q d) (o p : ℕ) → u < d → d < templateOf k .corners → eqb (getD s (l .place) 0) o ≡ false → eqb (getD s (l .place) 0) p ≡ false → Closes n table hs (faceEdge (getD s u 0) (getD s w 0) (floorOf s (base k + x)) o p (getD s q 0)) (getD s d 0)
     closes-by {ys} {u} {w} {q} {d} x l o p i h e g = record {
       via = getD s (l .place) 0;
       by = links-by l (floorOf s (base k + x)) o p i h (above-floor x (l .place) (l .later) (l .inside)) e g;
     }
 
     -- where p is no vertex
-    closes-any : length (meshOf zs ls ps .points) ≤ 512 → (i d : ℕ) → d < templateOf k .corners → followsAny (templateOf k) (base k + d) i d ≡ true → {p : ℕ} → p ≡ 65535 → Closes n table ms (edgeAt s (base k + d) i p p) (getD s d 0)
+    closes-any : length (meshOf zs ls ps .points) ≤ 512 → (i d : ℕ) → d < templateOf k .corners → followsAny (templateOf k) (base k + d) i d ≡ true → {p : ℕ} → p ≡ 65535 → Closes n table hs (faceEdgeAt s (base k + d) i p p) (getD s d 0)
     closes-any few i d h e {p} q =
         let x = base k + d in
         let l = leaf-links (upTo (t .corners)) (look x i) (look x (i + 1)) (look x (i + 2)) d h e in
@@ -217,8 +218,8 @@ module _ (zs : List ℤ) (ls ps : List ℕ) (k : ℕ) (s : List ℕ) (leaf : isL
       abbrev Sided : Type 0
       Sided =
           ((getD s 3 0 ≡ o) ⊎ (getD s 3 0 ≡ p))
-          ⊎ (Closes n table ms (edge (getD s 0 0) (getD s 2 0) (floorOf s (base k + x)) o p (getD s 1 0)) (getD s 3 0)
-          ⊎ Closes n table ms (edge (getD s 0 0) (getD s 1 0) (floorOf s (base k + x)) o p (getD s 2 0)) (getD s 3 0))
+          ⊎ (Closes n table hs (faceEdge (getD s 0 0) (getD s 2 0) (floorOf s (base k + x)) o p (getD s 1 0)) (getD s 3 0)
+          ⊎ Closes n table hs (faceEdge (getD s 0 0) (getD s 1 0) (floorOf s (base k + x)) o p (getD s 2 0)) (getD s 3 0))
 
       three : {y q : ℕ} → y ≡ q → (y ≡ 3) ⊎ (y ≡ a) → (q ≡ 3) ⊎ (q ≡ b) → y ≡ 3
       three c (inl i) j = i
@@ -256,7 +257,7 @@ module _ (zs : List ℤ) (ls ps : List ℕ) (k : ℕ) (s : List ℕ) (leaf : isL
           sided (λ l r f g. other-of f g c (eqb-false _ _ (apart-low l m i)) (eqb-false _ _ (apart-low r m j)))
 
     -- whatever p is: the apex and another corner link the first three of a pyramid, and p is one of them at most
-    closes-twice : (x : ℕ) → 2 < templateOf k .corners → Twice (templateOf k) → (p : ℕ) → Closes n table ms (edge (getD s 1 0) (getD s 0 0) (floorOf s (base k + x)) p p (getD s 0 0)) (getD s 2 0)
+    closes-twice : (x : ℕ) → 2 < templateOf k .corners → Twice (templateOf k) → (p : ℕ) → Closes n table hs (faceEdge (getD s 1 0) (getD s 0 0) (floorOf s (base k + x)) p p (getD s 0 0)) (getD s 2 0)
     closes-twice x h e p =
         let l = leaf-links (4 ∷ []) 1 0 0 2 h (e .apex) in
         let r = leaf-links (2 ∷ 3 ∷ []) 1 0 0 2 h (e .side) in
@@ -274,28 +275,28 @@ module _ (zs : List ℤ) (ls ps : List ℕ) (k : ℕ) (s : List ℕ) (leaf : isL
         apart (inr i) j e = omega arith
 
     -- the corner that links the first three
-    first-links : (l : Linking (2 ∷ 4 ∷ []) 0 1 1 2) → 2 < templateOf k .corners → 0 < getD lesser (base k + l .place) 0 → LinksFirst n table ms s (getD s (l .place) 0)
+    first-links : (l : Linking (2 ∷ 4 ∷ []) 0 1 1 2) → 2 < templateOf k .corners → 0 < getD lesser (base k + l .place) 0 → LinksFirst n table hs s (getD s (l .place) 0)
     first-links l h e =
         links-by l (getD s 0 0 + 1) (getD s 1 0) (getD s 1 0) (omega arith) h (above-first (l .place) (l .later) (l .inside) e) (l .further) (l .further)
 
     -- whatever is known of the aim, there is some, and the listed tuple's vertex follows by it
-    pub leaf-aims : length (meshOf zs ls ps .points) ≤ 512 → (d : ℕ) → d < templateOf k .corners → eqb (look (base k + d) 0) (look (base k + d) 1) ≡ false → {some both : Bool} {o p : ℕ} → Aims (LinksFirst n table ms s) (base k + d) some both o p → (some ≡ true) × Follows n table ms s (base k + d) o p both (getD s d 0)
+    pub leaf-aims : length (meshOf zs ls ps .points) ≤ 512 → (d : ℕ) → d < templateOf k .corners → eqb (look (base k + d) 0) (look (base k + d) 1) ≡ false → {some both : Bool} {o p : ℕ} → Aims (LinksFirst n table hs s) (base k + d) some both o p → (some ≡ true) × Follows n table hs s (base k + d) o p both (getD s d 0)
     leaf-aims few d h z {some} {both} {o} {p} q =
         (split some (λ e. e) (λ e. absurd (not-none (q .none e))), record { each = λ e. let f = q .each e in rw (f .0) (⊎-elim no-vertex (λ g. ⊎-elim at-sixteen sole g) (f .1)); some = λ e. let f = q .either e in ⊎-elim (at-three (f .1)) (at-eleven (f .1)) (f .0) })
       where
-        low-at : base k + d ≡ 3 → (l : Linking (2 ∷ 4 ∷ []) 0 1 1 2) → LinksFirst n table ms s (getD s (l .place) 0)
+        low-at : base k + d ≡ 3 → (l : Linking (2 ∷ 4 ∷ []) 0 1 1 2) → LinksFirst n table hs s (getD s (l .place) 0)
         low-at e l = first-links l (omega (arith, row-three k d h e .place)) (floored k d (l .place) (l .later) (l .inside) (lt-ltb (base k + d) 14 (omega arith)))
 
         lowest : RowThree k d → Linking (2 ∷ 4 ∷ []) 0 1 1 2
         lowest r = leaf-links (2 ∷ 4 ∷ []) 0 1 1 2 (omega (arith, r .place)) (r .low)
 
-        not-none : (base k + d ≡ 3) × ((y : ℕ) → LinksFirst n table ms s y → ⊥) → ⊥
+        not-none : (base k + d ≡ 3) × ((y : ℕ) → LinksFirst n table hs s y → ⊥) → ⊥
         not-none n = let l = lowest (row-three k d h (n .0)) in n .1 (getD s (l .place) 0) (low-at (n .0) l)
 
-        no-vertex : p ≡ 65535 → Closes n table ms (edgeAt s (base k + d) 0 p p) (getD s d 0) × Closes n table ms (edgeAt s (base k + d) 3 p p) (getD s d 0)
+        no-vertex : p ≡ 65535 → Closes n table hs (faceEdgeAt s (base k + d) 0 p p) (getD s d 0) × Closes n table hs (faceEdgeAt s (base k + d) 3 p p) (getD s d 0)
         no-vertex e = let f = ahead-at k d h z in (closes-any few 0 d h (f .0) e, closes-any few 3 d h (f .1) e)
 
-        sole : (base k + d ≡ 3) × ((y : ℕ) → LinksFirst n table ms s y → y ≡ p) → Closes n table ms (edgeAt s (base k + d) 0 p p) (getD s d 0) × Closes n table ms (edgeAt s (base k + d) 3 p p) (getD s d 0)
+        sole : (base k + d ≡ 3) × ((y : ℕ) → LinksFirst n table hs s y → y ≡ p) → Closes n table hs (faceEdgeAt s (base k + d) 0 p p) (getD s d 0) × Closes n table hs (faceEdgeAt s (base k + d) 3 p p) (getD s d 0)
         sole n =
             let r = row-three k d h (n .0) in
             let l = lowest r in
@@ -309,17 +310,17 @@ module _ (zs : List ℤ) (ls ps : List ℕ) (k : ℕ) (s : List ℕ) (leaf : isL
             let g = rw (n .0) at (closes-by d two p p (omega arith) i w w) in
             rw (n .0, r .place) (f, g)
 
-        at-sixteen : base k + d ≡ 16 → Closes n table ms (edgeAt s (base k + d) 0 p p) (getD s d 0) × Closes n table ms (edgeAt s (base k + d) 3 p p) (getD s d 0)
+        at-sixteen : base k + d ≡ 16 → Closes n table hs (faceEdgeAt s (base k + d) 0 p p) (getD s d 0) × Closes n table hs (faceEdgeAt s (base k + d) 3 p p) (getD s d 0)
         at-sixteen n =
             let r = row-sixteen k d h n in
             let f = rw n at (closes-twice d (omega (arith, r .0)) (r .1) p) in
             rw (n, r .0) (f, f)
 
         Known : Type 0
-        Known = (o ≡ p) ⊎ ((base k + d ≡ 3) × ((y : ℕ) → LinksFirst n table ms s y → (y ≡ o) ⊎ (y ≡ p)))
+        Known = (o ≡ p) ⊎ ((base k + d ≡ 3) × ((y : ℕ) → LinksFirst n table hs s y → (y ≡ o) ⊎ (y ≡ p)))
 
         Goal : Type 0
-        Goal = ((getD s d 0 ≡ o) ⊎ (getD s d 0 ≡ p)) ⊎ (Closes n table ms (edgeAt s (base k + d) 0 o p) (getD s d 0) ⊎ Closes n table ms (edgeAt s (base k + d) 3 o p) (getD s d 0))
+        Goal = ((getD s d 0 ≡ o) ⊎ (getD s d 0 ≡ p)) ⊎ (Closes n table hs (faceEdgeAt s (base k + d) 0 o p) (getD s d 0) ⊎ Closes n table hs (faceEdgeAt s (base k + d) 3 o p) (getD s d 0))
 
         at-three : Known → base k + d ≡ 3 → Goal
         at-three c n =

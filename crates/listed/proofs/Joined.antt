@@ -1,29 +1,29 @@
 -- At every place but the first, a listed tuple has a neighbour of the vertex at an earlier place.
 -- Assumes nothing.
-use Prim.Native.Nat.{ℕ, zero, suc, _+_, _<_, _≤_}
+use Prim.Native.Nat.{ℕ, _+_, _<_}
 use mathlib.Core.Path.{_≡_, refl, sym, _∙_, ap, fun-ext}
-use mathlib.Core.Bool.{Bool, true, false, not, _&&_, _||_, false≢true, true≢false, and-true, and-comm}
-use mathlib.Core.List.{List, [], _∷_, map, List·Memᴰ, List·Memᴰ·head, List·Memᴰ·tail}
+use mathlib.Core.Bool.{Bool, true, false, not, _&&_, _||_, true≢false, and-true, and-comm}
+use mathlib.Core.List.{List, [], _∷_, List·Memᴰ, List·Memᴰ·head, List·Memᴰ·tail}
 use native.Mathlib.Omega.{arith}
 use native.Mathlib.Decide.{decLt}
 use borrow.Author.Tests.{eqb-false, ne-eqb, ltb-true, not-true}
 use lib.Dec.{eqb, ltb}
 use lib.IntN.{ℤ}
-use lib.ListN.{length, getD}
+use lib.ListN.{getD}
 use Rattle.base.specs.Lists.{all, any, upTo, isIn}
 use Rattle.base.proofs.Bools.{or-either}
 use Rattle.base.proofs.Lists.{both-left, both-right, all-at, any-at}
 use Rattle.base.proofs.Members.{map-has, from-has}
 use Rattle.space.specs.Mesh.{Mesh, Tetrahedron, together, holds}
 use Rattle.space.specs.Arrays.{meshOf}
-use Rattle.around.specs.Index.{togetherIn}
-use Rattle.around.proofs.Around.{together-in}
-use Rattle.templates.specs.Tables.{Template, place, templateOf, at}
+use Rattle.tets_around.specs.Sharing.{togetherIn}
+use Rattle.tets_around.proofs.Around.{together-in}
+use Rattle.templates.specs.Tables.{Template, templateOf, at}
 use Rattle.cells.specs.Cells.{hasEdges}
 use Rattle.cells.specs.Full.{allowed}
-use Rattle.portions.specs.Tuples.{front}
-use Rattle.rule.specs.Rule.{isLeaf}
-use Rattle.levels.specs.Levels.{base}
+use Rattle.portions.specs.between.Tuples.{front}
+use Rattle.rule.specs.between.Leaf.{isLeaf}
+use Rattle.levels.specs.between.Levels.{base}
 use Rattle.levels.proofs.Right.{isRow, joins, joinedBy, right-at, row-same}
 use Rattle.listed.proofs.Prune.{leaf-edges, leaf-allowed}
 

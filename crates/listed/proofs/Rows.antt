@@ -1,8 +1,8 @@
 -- A vertex that stands in a tetrahedron with two others makes a facet with them,
--- as far as the neighbour table and the marks tell.
+-- as far as the neighbour table and the hints tell.
 -- Assumes nothing.
 use Prim.Native.Nat.{ℕ, _+_, _*_, _/_, _<_}
-use mathlib.Core.Path.{_≡_, refl, sym, subst}
+use mathlib.Core.Path.{_≡_, refl, sym}
 use mathlib.Core.Logic.{_⊎_, inl, inr}
 use mathlib.Core.Bool.{Bool, true, false}
 use mathlib.Core.List.{List, [], _∷_, List·Memᴰ}
@@ -14,12 +14,13 @@ use Rattle.base.specs.Lists.{all, upTo, isIn}
 use Rattle.base.proofs.Lists.{both-left, both-right, all-at, any-at}
 use Rattle.base.proofs.Members.{from-at}
 use Rattle.space.specs.Arrays.{row4}
-use Rattle.around.specs.Index.{Labelled, hasAll, togetherIn}
+use Rattle.tets_around.specs.between.Index.{Labelled}
+use Rattle.tets_around.specs.Sharing.{hasAll, togetherIn}
 use Rattle.templates.proofs.Tests.{any-from}
-use Rattle.neighbours.specs.Reading.{Tabled, rowIn, InRow}
+use Rattle.neighbours.specs.between.Reading.{Tabled, rowIn, InRow}
 use Rattle.neighbours.proofs.Reading.{row-of-in, entries-have}
-use Rattle.marks.specs.Marks.{Marked}
-use Rattle.reaching.specs.Reaching.{Faces}
+use Rattle.facet_hints.specs.between.Hints.{HintsOf}
+use Rattle.reaching.specs.between.Reaching.{Faces}
 
 module _ {ls : List ℕ} {n : ℕ} (w : Labelled ls n) where
   all-below : (i : ℕ) → i < length ls / 4 → all (λ y. ltb y n) (row4 ls i) ≡ true
@@ -34,7 +35,7 @@ module _ {ls : List ℕ} {n : ℕ} (w : Labelled ls n) where
       let l = ltb-true (x .0) n (all-at (λ y. ltb y n) (row4 ls i) (all-below i (omega (arith, from-at 0 (length ls / 4) m .1))) (x .1)) in
       omega (arith, l, eqb-true v (x .0) (x .2))
 
-module _ {ls : List ℕ} {n : ℕ} {table ms : List ℕ} (labelled : Labelled ls n) (tabled : Tabled ls n table) (marked : Marked ls ms) where
+module _ {ls : List ℕ} {n : ℕ} {table hs : List ℕ} (labelled : Labelled ls n) (tabled : Tabled ls n table) (hinted : HintsOf ls hs) where
   -- two vertices of one tetrahedron: the one stands in the other's row
   in-row : (i : ℕ) → List·Memᴰ i (upTo (length ls / 4)) → (a v : ℕ) → isIn a (row4 ls i) ≡ true → isIn v (row4 ls i) ≡ true → eqb v a ≡ false → InRow table (rowIn n table a) v
   in-row i m a v p q z =
@@ -50,8 +51,8 @@ module _ {ls : List ℕ} {n : ℕ} {table ms : List ℕ} (labelled : Labelled ls
       let i = both-left (isIn v e) _ (both-right (isIn x e) _ h) in
       (in-row (f .0) (f .1) u v (both-left (isIn u e) _ (f .2)) i p, in-row (f .0) (f .1) x v (both-left (isIn x e) _ h) i q)
 
-  pub facet-faces : (u x v : ℕ) → togetherIn ls (u ∷ x ∷ v ∷ []) ≡ true → eqb v u ≡ false → Faces n table ms u x v
-  facet-faces u x v t p = record { mark = marked .facets u x v t; stands = go (eqb v x) refl }
+  pub facet-faces : (u x v : ℕ) → togetherIn ls (u ∷ x ∷ v ∷ []) ≡ true → eqb v u ≡ false → Faces n table hs u x v
+  facet-faces u x v t p = record { hint = hinted .facets u x v t; stands = go (eqb v x) refl }
     where
       go : (b : Bool) → eqb v x ≡ b → (v ≡ x) ⊎ (InRow table (rowIn n table u) v × InRow table (rowIn n table x) v)
       go true e = inl (eqb-true v x e)

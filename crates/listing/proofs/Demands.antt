@@ -14,7 +14,7 @@ use Rattle.space.specs.Mesh.{Mesh}
 use Rattle.layout.specs.Layout.{vertices, decoded}
 use Rattle.arrays.specs.Refusals.{refusals}
 use Rattle.cells.specs.Full.{fullList}
-use Rattle.once.proofs.Once.{once}
+use Rattle.exactly_once.proofs.Once.{once}
 use Rattle.portions.specs.Portions.{portion, given, refused, after, records}
 use Rattle.portions.specs.Run as run
 use Rattle.portions.specs.Run.{Outcome, Calls, read}
@@ -24,7 +24,7 @@ use Rattle.portions.proofs.Firm.{outcome-call, refusal-fails, calls-tell}
 use Rattle.rule.specs.Rule.{tetRule}
 use Rattle.rule.proofs.Full.{after-above, lawful, telling}
 use Rattle.record.specs.declared.Mark.{Mark}
-use Rattle.record.specs.Marks.{markOf, letters}
+use Rattle.record.specs.Marks.{markOf, markCorners}
 use Rattle.records.specs.declared.Answer.{Answer}
 use Rattle.records.specs.declared.Answer.the-variants.{Refused, Given}
 use Rattle.records.specs.Marks.{says, answerNumber}
@@ -71,7 +71,7 @@ module _ (f : List ℕ) where
   called-calls (more p r) = run.more (outcome-call tetRule (fullList (decoded f)) (lawful (decoded f)) (given-outcome p)) (called-calls r)
 
   all-after : (s : Mark) → s .kind ≡ 65535 → after tetRule (fullList (decoded f)) (markOf s) ≡ fullList (decoded f)
-  all-after s e = after-above (decoded f) (s .kind) (letters s) (omega arith)
+  all-after s e = after-above (decoded f) (s .kind) (markCorners s) (omega arith)
 
   answered : (a : Answer) {k room left : List ℕ} → Outcome tetRule (fullList (decoded f)) k room (says a) left → tetRule .size ≤ length room → all (tetRule .fits) (take (length room / tetRule .size) (after tetRule (fullList (decoded f)) k)) ≡ true → answerNumber a ≡ 0
   answered (Refused j v) o h g = absurd (refusal-fails tetRule (fullList (decoded f)) (lawful (decoded f)) o h g)

@@ -27,7 +27,7 @@ use Rattle.record.proofs.Entries.{pad-length}
 use Rattle.record.specs.declared.Mark.{Mark}
 use Rattle.record.specs.Marks.{markOf, cellMark}
 use Rattle.records.specs.declared.Answer.the-variants.{Given}
-use Rattle.records.specs.Marks.{Written}
+use Rattle.records.specs.between.Written.{Written}
 use Rattle.portioning.specs.Portion.{Portioned}
 use Rattle.portioning.proofs.Promised.{bars-none, promised-written}
 use Rattle.listing.specs.Demands.{Called, none, last, more}

@@ -10,7 +10,7 @@ use Rattle.base.specs.Lists.{all}
 use Rattle.layout.specs.Layout.{vertices, decoded}
 use Rattle.arrays.specs.Refusals.{refusal}
 use Rattle.cells.specs.Full.{fullList}
-use Rattle.once.specs.Once.{Once}
+use Rattle.exactly_once.specs.Once.{ListedOnce}
 use Rattle.neighbours.specs.Table.{tableOf}
 use Rattle.portions.specs.Portions.{given, after, records, readBack}
 use Rattle.portions.specs.Run.{Promise}
@@ -28,7 +28,7 @@ use Rattle.portioning.specs.Portion.{Portioned}
 -- of an accepted file each arrangement of corners that meets the conditions is listed once, whichever way it is turned,
 -- with exactly its tetrahedra, and nothing else is listed
 abbrev pub Demand2 : List ℕ → Type 0
-Demand2 f = refusal f ≡ 0 → Once (decoded f)
+Demand2 f = refusal f ≡ 0 → ListedOnce (decoded f)
 
 -- ---- demand 3
 

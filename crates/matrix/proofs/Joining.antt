@@ -1,9 +1,8 @@
 -- What the matrix says after stores. Assumes nothing.
 use mathlib.Core.Path.{_≡_, refl, sym, _∙_, ap}
-use mathlib.Core.Logic.{_≢_}
-use mathlib.Core.Bool.{Bool, true, false, not, _&&_, _||_, or-assoc, or-true, or-false, and-comm, and-false}
+use mathlib.Core.Bool.{Bool, true, false, not, _&&_, _||_, or-assoc, or-true, or-false, and-comm}
 use mathlib.Core.List.{List}
-use Prim.Native.Nat.{ℕ, zero, suc, _+_, _*_, _<_, _≤_}
+use Prim.Native.Nat.{ℕ, _+_, _*_, _<_}
 use native.Mathlib.Omega.{arith}
 use native.Mathlib.Decide.{decLt}
 use borrow.Author.Tests.{eqb-true, eqb-false}
@@ -12,19 +11,19 @@ use lib.Bits.{bitOr, or-add-and, and-le-l, and-le-r}
 use lib.ListN.{length, getD, set, length-set, replicate, getD-replicate, length-replicate, List·getD-eq-default}
 use lib.Seq.{getD-set-same, getD-set-other}
 use native.Mathlib.Numerals.{add-one}
-use Rattle.matrix.specs.Matrix.{isOne, joinedBy, isJoined, Empty, Joins, Blank, point, line, square}
+use Rattle.matrix.specs.between.Matrix.{isOne, joinedBy, isJoined, Empty, AddsJoins, Blank, onePair, rowPairs, tetPairs}
 
-pub adds-then : {m m′ m″ : List ℕ} {f g : ℕ → ℕ → Bool} → Joins m m′ f → Joins m′ m″ g → Joins m m″ (λ x y. f x y || g x y)
+pub adds-then : {m m′ m″ : List ℕ} {f g : ℕ → ℕ → Bool} → AddsJoins m m′ f → AddsJoins m′ m″ g → AddsJoins m m″ (λ x y. f x y || g x y)
 adds-then {m} {m′} {m″} {f} {g} a b = record { same = b .same ∙ a .same; at = λ x y h. b .at x y h ∙ ap (λ t. t || g x y) (a .at x y h) ∙ or-assoc (isJoined m x y) (f x y) (g x y) }
 
-pub adds-as : {m m′ : List ℕ} {f g : ℕ → ℕ → Bool} → Joins m m′ f → ((x y : ℕ) → f x y ≡ g x y) → Joins m m′ g
+pub adds-as : {m m′ : List ℕ} {f g : ℕ → ℕ → Bool} → AddsJoins m m′ f → ((x y : ℕ) → f x y ≡ g x y) → AddsJoins m m′ g
 adds-as {m} a e = record { same = a .same; at = λ x y h. a .at x y h ∙ ap (λ t. isJoined m x y || t) (e x y) }
 
-pub adds-none : (m : List ℕ) → Joins m m (λ x y. false)
+pub adds-none : (m : List ℕ) → AddsJoins m m (λ x y. false)
 adds-none m = record { same = refl; at = λ x y h. sym (or-false (isJoined m x y)) }
 
 -- a store joins two vertices
-stores : (m : List ℕ) (u v : ℕ) → v < 512 → u * 512 + v < length m → (x y : ℕ) → y < 512 → isJoined (set m (u * 512 + v) 1) x y ≡ (isJoined m x y || point u v x y)
+stores : (m : List ℕ) (u v : ℕ) → v < 512 → u * 512 + v < length m → (x y : ℕ) → y < 512 → isJoined (set m (u * 512 + v) 1) x y ≡ (isJoined m x y || onePair u v x y)
 unfolding isJoined
 stores m u v hv hm x y hy = go (eqb x u) (eqb y v) refl refl
   where
@@ -39,26 +38,26 @@ stores m u v hv hm x y hy = go (eqb x u) (eqb y v) refl refl
     go true false e f = other (λ i. eqb-false y v f (omega (arith, eqb-true x u e)))
     go false q e f = other (λ i. eqb-false x u e (omega arith))
 
-pub join-adds : (m : List ℕ) (u v : ℕ) → v < 512 → u * 512 + v < length m → Joins m (set m (u * 512 + v) 1) (point u v)
+pub join-adds : (m : List ℕ) (u v : ℕ) → v < 512 → u * 512 + v < length m → AddsJoins m (set m (u * 512 + v) 1) (onePair u v)
 join-adds m u v hv hm = record { same = length-set m (u * 512 + v) 1; at = stores m u v hv hm }
 
 four : (p a b c d : Bool) → ((((p && a) || (p && b)) || (p && c)) || (p && d)) ≡ (p && (((a || b) || c) || d))
 four true a b c d = refl
 four false a b c d = refl
 
-pub row-of-joins : (u a b c d x y : ℕ) → (((point u a x y || point u b x y) || point u c x y) || point u d x y) ≡ line u a b c d x y
+pub row-of-joins : (u a b c d x y : ℕ) → (((onePair u a x y || onePair u b x y) || onePair u c x y) || onePair u d x y) ≡ rowPairs u a b c d x y
 row-of-joins u a b c d x y = four (eqb x u) (eqb y a) (eqb y b) (eqb y c) (eqb y d) ∙ and-comm (eqb x u) (isOne a b c d y)
 
-pub tet-of-rows : (a b c d x y : ℕ) → (((line a a b c d x y || line b a b c d x y) || line c a b c d x y) || line d a b c d x y) ≡ square a b c d x y
+pub tet-of-rows : (a b c d x y : ℕ) → (((rowPairs a a b c d x y || rowPairs b a b c d x y) || rowPairs c a b c d x y) || rowPairs d a b c d x y) ≡ tetPairs a b c d x y
 tet-of-rows a b c d x y = four (isOne a b c d y) (eqb x a) (eqb x b) (eqb x c) (eqb x d)
 
 -- one tetrahedron more
-near-more : (l : List ℕ) (i x y : ℕ) → (joinedBy l i x y || square (getD l (4 * i) 0) (getD l (4 * i + 1) 0) (getD l (4 * i + 2) 0) (getD l (4 * i + 3) 0) x y) ≡ joinedBy l (i + 1) x y
+near-more : (l : List ℕ) (i x y : ℕ) → (joinedBy l i x y || tetPairs (getD l (4 * i) 0) (getD l (4 * i + 1) 0) (getD l (4 * i + 2) 0) (getD l (4 * i + 3) 0) x y) ≡ joinedBy l (i + 1) x y
 unfolding joinedBy
 near-more l i x y = sym (ap (λ k. joinedBy l k x y) (add-one i))
 
 pub adds-tet : {m m′ m″ : List ℕ} (l : List ℕ) (i : ℕ) {a b c d : ℕ} → a ≡ getD l (4 * i) 0 → b ≡ getD l (4 * i + 1) 0 → c ≡ getD l (4 * i + 2) 0 → d ≡ getD l (4 * i + 3) 0
-    → Joins m m′ (joinedBy l i) → Joins m′ m″ (square a b c d) → Joins m m″ (joinedBy l (i + 1))
+    → AddsJoins m m′ (joinedBy l i) → AddsJoins m′ m″ (tetPairs a b c d) → AddsJoins m m″ (joinedBy l (i + 1))
 adds-tet l i ea eb ec ed f g = adds-as (adds-then f (rw (ea, eb, ec, ed) at g)) (near-more l i)
 
 pub near-none : (l : List ℕ) (x y : ℕ) → false ≡ joinedBy l 0 x y

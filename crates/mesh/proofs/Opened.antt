@@ -9,13 +9,14 @@ use denote.Ref.{RefT, now}
 use Rattle.space.specs.Mesh.{point}
 use Rattle.space.specs.declared.Vertex.{Vertex}
 use Rattle.space.specs.declared.Tet.{Tet}
-use Rattle.layout.specs.Layout.{Framed, decoded}
+use Rattle.layout.specs.Layout.{decoded}
+use Rattle.layout.specs.between.Framed.{Framed}
 use Rattle.arrays.specs.Refusals.{refusal, answered, checked}
 use Rattle.arrays.specs.declared.Checked.the-variants.{Accepted}
 use Rattle.arrays.proofs.Answers.{accepted-says}
 use Rattle.arrays.proofs.Accepted.{accepted-gives}
-use Rattle.view.specs.View.{fits, tet, four, placeIn, tetraIn, partIn}
-use Rattle.view.specs.declared.Place.the-variants.{At, Nowhere}
+use Rattle.view.specs.View.{fillsFile, tetrahedron, four, placeIn, tetraIn, partIn}
+use Rattle.view.specs.declared.Located.the-variants.{At, Nowhere}
 use Rattle.view.specs.declared.Tetra.the-variants.{NoTet}
 use Rattle.view.specs.declared.Part.the-variants.{Number, NoPart}
 use Rattle.view.proofs.Shown.{fits-framed, place-framed, tetra-framed, part-framed}
@@ -36,16 +37,16 @@ module _ (f : List ℕ) (n t : ℕ) (e : checked f ≡ Accepted n t) where
   whole : Framed f n t
   whole = let s = accepted-says f e in rw (s .1 .0, s .1 .1) (accepted-gives f (s .0) .framed)
 
-  pub fits-accepted : fits f n t ≡ true
+  pub fits-accepted : fillsFile f n t ≡ true
   fits-accepted = fits-framed whole
 
   pub place-accepted : (v : Vertex) → placeIn f n t v ≡ cond (ltb (v .0) n) (At (point (decoded f) (v .0))) Nowhere
   place-accepted = place-framed whole
 
-  pub tetra-accepted : (j : Tet) → tetraIn f n t j ≡ cond (ltb (j .0) t) (four (tet (decoded f) (j .0))) NoTet
+  pub tetra-accepted : (j : Tet) → tetraIn f n t j ≡ cond (ltb (j .0) t) (four (tetrahedron (decoded f) (j .0))) NoTet
   tetra-accepted = tetra-framed whole
 
-  pub part-accepted : (j : Tet) → partIn f n t j ≡ cond (ltb (j .0) t) (Number (tet (decoded f) (j .0) .part)) NoPart
+  pub part-accepted : (j : Tet) → partIn f n t j ≡ cond (ltb (j .0) t) (Number (tetrahedron (decoded f) (j .0) .part)) NoPart
   part-accepted = part-framed whole
 
 -- ---- two views that the promise of `open` permits are one

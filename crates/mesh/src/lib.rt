@@ -2,15 +2,16 @@
 use arrays::Checked;
 use space::Tet;
 use space::Vertex;
+use view::Located;
 use view::Part;
-use view::Place;
 use view::Tetra;
 use view::part_of;
 use view::point_of;
 use view::tet_of;
 ghost use mathlib.Core.Path.{_≡_};
-ghost use Rattle.layout.specs.Layout.{Framed};
-ghost use Rattle.arrays.specs.Refusals.{headed, checked};
+ghost use Rattle.layout.specs.between.Framed.{Framed};
+ghost use Rattle.arrays.specs.Refusals.{checked};
+ghost use Rattle.arrays.specs.between.Headed.{headed};
 ghost use Rattle.arrays.specs.declared.Checked.the-variants.{Accepted};
 ghost use Rattle.view.specs.View.{placeIn, tetraIn, partIn};
 ghost use Rattle.mesh.specs.Counts.{sizesIn};
@@ -108,7 +109,7 @@ pub fn tet_count<'a>(m: View<'a>) -> usize
     m.t
 }
 
-pub fn vertex_point<'a>(m: View<'a>, v: Vertex) -> Place
+pub fn vertex_point<'a>(m: View<'a>, v: Vertex) -> Located
     ensures { λ r. ⌜ r ≡ placeIn (now (m .entry .file)) (m .entry .n) (m .entry .t) v ⌝ }
 {
     point_of(m.file, m.n, m.t, v)

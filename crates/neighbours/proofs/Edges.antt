@@ -1,7 +1,7 @@
 -- The neighbour table has every edge twice, at each of its ends. Assumes nothing.
 use mathlib.Core.Path.{_≡_, refl, sym, _∙_, ap, fun-ext}
 use mathlib.Core.Bool.{Bool, true, false, cond, not, _&&_, and-true, and-comm}
-use mathlib.Core.List.{List, [], _∷_, _++_}
+use mathlib.Core.List.{List, [], _∷_}
 use Prim.Native.Nat.{ℕ, zero, suc, _+_, _*_}
 use native.Mathlib.Numerals.{add-one}
 use native.Mathlib.Omega.{arith}
@@ -11,10 +11,10 @@ use Rattle.base.specs.Lists.{any, keep, upTo, isIn}
 use Rattle.base.proofs.Lists.{keep-append}
 use Rattle.base.proofs.Runs.{upTo-more, keep-same}
 use Rattle.space.specs.Mesh.{Mesh, together}
-use Rattle.matrix.specs.Matrix.{nextTo}
-use Rattle.neighbours.specs.Table.{rowOf, rowsOf, neighboursOf, tableOf}
+use Rattle.matrix.specs.between.Matrix.{nextTo}
+use Rattle.neighbours.specs.Table.{neighbourRow, firstRows, neighboursOf, tableOf}
 use Rattle.neighbours.specs.Edges.{edges}
-use Rattle.neighbours.specs.Grown.{partOf}
+use Rattle.neighbours.specs.between.Grown.{partOf}
 use Rattle.neighbours.proofs.Rows.{row-add, rows-none, rows-up, length-table}
 
 one : (b : Bool) (x y : ℕ) → length (cond b (x ∷ []) []) ≡ length (cond b (y ∷ []) [])
@@ -27,14 +27,14 @@ module _ (f : ℕ → ℕ → Bool) where
   lesser v = keep (λ u. f u v) (upTo v)
 
   -- one vertex more stands in the rows of those next to it
-  column : (n k : ℕ) → length (rowsOf (rowOf f (n + 1)) k) ≡ length (rowsOf (rowOf f n) k) + length (keep (λ u. nextTo f u n) (upTo k))
+  column : (n k : ℕ) → length (firstRows (neighbourRow f (n + 1)) k) ≡ length (firstRows (neighbourRow f n) k) + length (keep (λ u. nextTo f u n) (upTo k))
   unfolding keep
-  column n zero = omega (arith, ap length (rows-none (rowOf f (n + 1))), ap length (rows-none (rowOf f n)))
+  column n zero = omega (arith, ap length (rows-none (neighbourRow f (n + 1))), ap length (rows-none (neighbourRow f n)))
   column n (suc k) =
       let p : ℕ → Bool = λ u. nextTo f u n in
-      let a = rows-up (rowOf f (n + 1)) k in
-      let b = rows-up (rowOf f n) k in
-      let c = ap length (row-add f k n 1) ∙ length-append (rowOf f n k) (partOf f k n 1) in
+      let a = rows-up (neighbourRow f (n + 1)) k in
+      let b = rows-up (neighbourRow f n) k in
+      let c = ap length (row-add f k n 1) ∙ length-append (neighbourRow f n k) (partOf f k n 1) in
       let d = ap (λ l. length (keep p l)) (ap upTo (sym (add-one k)) ∙ upTo-more k) ∙ ap length (keep-append p (upTo k) (k ∷ [])) ∙ length-append (keep p (upTo k)) (keep p (k ∷ [])) in
       rw (sym (add-one k)) (omega (arith, a, b, c, d, column n k, one (nextTo f k n) n k))
 
@@ -44,18 +44,18 @@ module _ (f : ℕ → ℕ → Bool) where
 
   module _ (same : (u v : ℕ) → f u v ≡ f v u) where
     -- and its own row has the same
-    row-lesser : (n : ℕ) → length (rowOf f (n + 1) n) ≡ length (lesser n)
-    unfolding rowOf keep
+    row-lesser : (n : ℕ) → length (neighbourRow f (n + 1) n) ≡ length (lesser n)
+    unfolding neighbourRow keep
     row-lesser n =
-        let a = ap length (row-add f n n 1) ∙ length-append (rowOf f n n) (partOf f n n 1) in
+        let a = ap length (row-add f n n 1) ∙ length-append (neighbourRow f n n) (partOf f n n 1) in
         let b : length (partOf f n n 1) ≡ 0 = rw (eq-eqb n n refl) in
         let c = ap length (keep-same (nextTo f n) (λ u. f u n) 0 n (λ u h. ap (λ b. not b && f n u) (ne-eqb n u (omega arith)) ∙ same n u)) in
         omega (arith, a, b, c)
 
-    twice : (n : ℕ) → length (rowsOf (rowOf f n) n) ≡ 2 * length (rowsOf lesser n)
-    twice zero = omega (arith, ap length (rows-none (rowOf f 0)), ap length (rows-none lesser))
+    twice : (n : ℕ) → length (firstRows (neighbourRow f n) n) ≡ 2 * length (firstRows lesser n)
+    twice zero = omega (arith, ap length (rows-none (neighbourRow f 0)), ap length (rows-none lesser))
     twice (suc n) =
-        rw (sym (add-one n)) (omega (arith, twice n, rows-up (rowOf f (n + 1)) n, rows-up lesser n, column n n, ap length (column-lesser n), row-lesser n))
+        rw (sym (add-one n)) (omega (arith, twice n, rows-up (neighbourRow f (n + 1)) n, rows-up lesser n, column n n, ap length (column-lesser n), row-lesser n))
 
 together-same : (m : Mesh) (u v : ℕ) → together m (u ∷ v ∷ []) ≡ together m (v ∷ u ∷ [])
 unfolding together
@@ -66,6 +66,6 @@ together-same m u v = ap (λ p. any p (m .tets)) (fun-ext (λ e. both (isIn u (e
 
 -- the length of the neighbour table by the number of edges
 pub table-edges : (m : Mesh) (n : ℕ) → length (tableOf m n) ≡ n + 1 + 2 * edges m n
-unfolding tableOf neighboursOf edges rowsOf
+unfolding tableOf neighboursOf edges firstRows
 table-edges m n =
     length-table (neighboursOf m n) n ∙ ap (λ k. n + 1 + k) (twice (λ u v. together m (u ∷ v ∷ [])) (together-same m) n)

@@ -7,7 +7,7 @@ use native.Mathlib.Numerals.{add-one}
 use native.Mathlib.Omega.{arith}
 use lib.ListN.{length, take, set, length-append, length-set, length-take}
 use lib.Seq.{take-set-le, take-suc-set}
-use Rattle.neighbours.specs.Grown.{Grown}
+use Rattle.neighbours.specs.between.Grown.{Grown}
 
 pub grown-none : (at : ℕ) (xs l : List ℕ) → xs ≡ [] → Grown at at xs l l
 grown-none at xs l e = rw e (record { same = refl; ends = sym (add-zero at); content = sym (append-nil (take at l)) })

@@ -1,17 +1,17 @@
 -- Each tetrahedron gives at most 12 neighbours: the offsets fit. Assumes nothing.
-use mathlib.Core.Path.{_≡_, refl, sym, _∙_, ap}
+use mathlib.Core.Path.{_≡_, refl, ap}
 use mathlib.Core.Bool.{Bool, true, false, cond, not, _&&_, _||_, false≢true, and-false, or-false}
-use mathlib.Core.List.{List, [], _∷_, _++_, append-nil}
+use mathlib.Core.List.{List, [], _∷_, _++_}
 use Prim.Native.Nat.{ℕ, zero, suc, _+_, _*_, _/_, _<_, _≤_}
 use native.Mathlib.Omega.{arith}
-use borrow.Author.Tests.{eqb-true, eqb-false, eq-eqb, ne-eqb}
+use borrow.Author.Tests.{eqb-true, eqb-false, ne-eqb}
 use lib.Dec.{eqb}
 use lib.ListN.{length, getD, length-append}
 use Rattle.base.specs.Lists.{keep, spread, from, upTo}
 use Rattle.base.proofs.Lists.{both-left, both-right}
-use Rattle.neighbours.specs.Table.{rowOf, rowsOf}
-use Rattle.matrix.specs.Matrix.{isOne, ofTet, joinedBy, nextTo}
-use Rattle.neighbours.specs.Grown.{Few}
+use Rattle.neighbours.specs.Table.{neighbourRow, firstRows}
+use Rattle.matrix.specs.between.Matrix.{isOne, isVertexOf, joinedBy, nextTo}
+use Rattle.neighbours.specs.between.Grown.{Few}
 
 -- ---- counting
 module _ {A B : Type 0} where
@@ -158,12 +158,12 @@ one-more : (l : List ℕ) (t u v : ℕ) → nextTo (joinedBy l (suc t)) u v ≡ 
 unfolding joinedBy
 one-more l t u v h = go (eqb u v) (joinedBy l t u v) refl h
   where
-    go : (e f : Bool) → eqb u v ≡ e → (not e && (f || (ofTet l t v && ofTet l t u))) ≡ true → ((not e && f) || twelveOf l t u v) ≡ true
+    go : (e f : Bool) → eqb u v ≡ e → (not e && (f || (isVertexOf l t v && isVertexOf l t u))) ≡ true → ((not e && f) || twelveOf l t u v) ≡ true
     go true f p h = absurd (false≢true h)
     go false true p h = refl
     go false false p h =
         among (getD l (4 * t) 0) (getD l (4 * t + 1) 0) (getD l (4 * t + 2) 0) (getD l (4 * t + 3) 0) u v p
-        (both-left (ofTet l t v) (ofTet l t u) h) (both-right (ofTet l t v) (ofTet l t u) h)
+        (both-left (isVertexOf l t v) (isVertexOf l t u) h) (both-right (isVertexOf l t v) (isVertexOf l t u) h)
 
 size-near : (l : List ℕ) (n k t : ℕ) → size (nextTo (joinedBy l t)) n k ≤ 12 * t
 unfolding joinedBy
@@ -181,9 +181,9 @@ size-near l n k (suc t) =
     )
 
 -- at most 12 neighbours for each tetrahedron
-pub rows-few : (l : List ℕ) (n k t : ℕ) → length (rowsOf (rowOf (joinedBy l t) n) k) ≤ 12 * t
-unfolding rowsOf rowOf
+pub rows-few : (l : List ℕ) (n k t : ℕ) → length (firstRows (neighbourRow (joinedBy l t) n) k) ≤ 12 * t
+unfolding firstRows neighbourRow
 rows-few l n k t = size-near l n k t
 
-pub few : (l : List ℕ) (n : ℕ) → length l ≤ 8192 → Few (rowOf (joinedBy l (length l / 4)) n)
+pub few : (l : List ℕ) (n : ℕ) → length l ≤ 8192 → Few (neighbourRow (joinedBy l (length l / 4)) n)
 few l n h k = omega (arith, rows-few l n k (length l / 4))

@@ -12,9 +12,9 @@ use Rattle.base.specs.Lists.{keep, spread, from, upTo}
 use Rattle.base.proofs.Lists.{keep-append}
 use Rattle.base.proofs.Loop.{length-from}
 use Rattle.base.proofs.Runs.{spread-append, map-append, from-add, upTo-more, keep-same}
-use Rattle.neighbours.specs.Table.{rowOf, rowsOf, offsets, tableBy}
-use Rattle.matrix.specs.Matrix.{nextTo}
-use Rattle.neighbours.specs.Grown.{partOf}
+use Rattle.neighbours.specs.Table.{neighbourRow, firstRows, offsets, tableBy}
+use Rattle.matrix.specs.between.Matrix.{nextTo}
+use Rattle.neighbours.specs.between.Grown.{partOf}
 
 -- ---- a part of a row
 module _ (f : ℕ → ℕ → Bool) (u v : ℕ) where
@@ -49,62 +49,62 @@ module _ (f : ℕ → ℕ → Bool) (u v : ℕ) where
 
 -- ---- a row
 module _ (f : ℕ → ℕ → Bool) (u : ℕ) where
-  pub row-none : rowOf f 0 u ≡ []
-  unfolding rowOf
+  pub row-none : neighbourRow f 0 u ≡ []
+  unfolding neighbourRow
   row-none = part-none f u 0
 
-  pub row-add : (v k : ℕ) → rowOf f (v + k) u ≡ rowOf f v u ++ partOf f u v k
-  unfolding rowOf
-  row-add v k = part-add f u 0 v k ∙ ap (λ w. rowOf f v u ++ partOf f u w k) (zero-add v)
+  pub row-add : (v k : ℕ) → neighbourRow f (v + k) u ≡ neighbourRow f v u ++ partOf f u v k
+  unfolding neighbourRow
+  row-add v k = part-add f u 0 v k ∙ ap (λ w. neighbourRow f v u ++ partOf f u w k) (zero-add v)
 
-  pub row-room : (v k n : ℕ) → v + k ≤ n → length (rowOf f v u) + length (partOf f u v k) ≤ length (rowOf f n u)
-  unfolding rowOf
-  row-room v k n h = omega (arith, ap length (row-add v k), length-append (rowOf f v u) (partOf f u v k), part-le f u 0 (v + k) n h)
+  pub row-room : (v k n : ℕ) → v + k ≤ n → length (neighbourRow f v u) + length (partOf f u v k) ≤ length (neighbourRow f n u)
+  unfolding neighbourRow
+  row-room v k n h = omega (arith, ap length (row-add v k), length-append (neighbourRow f v u) (partOf f u v k), part-le f u 0 (v + k) n h)
 
 -- ---- rows
 module _ (row : ℕ → List ℕ) where
-  pub rows-none : rowsOf row 0 ≡ []
-  unfolding rowsOf spread
+  pub rows-none : firstRows row 0 ≡ []
+  unfolding firstRows spread
   rows-none = refl
 
-  pub rows-more : (u : ℕ) → rowsOf row (u + 1) ≡ rowsOf row u ++ row u
-  unfolding rowsOf spread
-  rows-more u = ap (spread row) (upTo-more u) ∙ spread-append row (upTo u) (u ∷ []) ∙ ap (λ l. rowsOf row u ++ l) (append-nil (row u))
+  pub rows-more : (u : ℕ) → firstRows row (u + 1) ≡ firstRows row u ++ row u
+  unfolding firstRows spread
+  rows-more u = ap (spread row) (upTo-more u) ∙ spread-append row (upTo u) (u ∷ []) ∙ ap (λ l. firstRows row u ++ l) (append-nil (row u))
 
-  pub rows-up : (u : ℕ) → length (rowsOf row (u + 1)) ≡ length (rowsOf row u) + length (row u)
-  rows-up u = ap length (rows-more u) ∙ length-append (rowsOf row u) (row u)
+  pub rows-up : (u : ℕ) → length (firstRows row (u + 1)) ≡ length (firstRows row u) + length (row u)
+  rows-up u = ap length (rows-more u) ∙ length-append (firstRows row u) (row u)
 
-  pub rows-le : (u n : ℕ) → u ≤ n → length (rowsOf row u) ≤ length (rowsOf row n)
-  unfolding rowsOf
+  pub rows-le : (u n : ℕ) → u ≤ n → length (firstRows row u) ≤ length (firstRows row n)
+  unfolding firstRows
   rows-le u n h =
       let e : n ≡ u + (n - u) = omega arith in
-      let a = ap (λ k. length (rowsOf row k)) e in
+      let a = ap (λ k. length (firstRows row k)) e in
       let b = ap (λ l. length (spread row l)) (from-add 0 u (n - u)) in
       let d = ap length (spread-append row (upTo u) (from (0 + u) (n - u))) in
-      omega (arith, a, b, d, length-append (rowsOf row u) (spread row (from (0 + u) (n - u))))
+      omega (arith, a, b, d, length-append (firstRows row u) (spread row (from (0 + u) (n - u))))
 
   -- the first k offsets
   abbrev pub offs : ℕ → List ℕ
-  offs k = map (λ u. length (rowsOf row u)) (upTo k)
+  offs k = map (λ u. length (firstRows row u)) (upTo k)
 
   pub offs-none : offs 0 ≡ []
   offs-none = refl
 
-  pub offs-more : (u : ℕ) → offs (u + 1) ≡ offs u ++ length (rowsOf row u) ∷ []
-  offs-more u = ap (map (λ u. length (rowsOf row u))) (upTo-more u) ∙ map-append (λ u. length (rowsOf row u)) (upTo u) (u ∷ [])
+  pub offs-more : (u : ℕ) → offs (u + 1) ≡ offs u ++ length (firstRows row u) ∷ []
+  offs-more u = ap (map (λ u. length (firstRows row u))) (upTo-more u) ∙ map-append (λ u. length (firstRows row u)) (upTo u) (u ∷ [])
 
   pub length-offs : (k : ℕ) → length (offs k) ≡ k
-  length-offs k = length-map (upTo k) (λ u. length (rowsOf row u)) ∙ length-from 0 k
+  length-offs k = length-map (upTo k) (λ u. length (firstRows row u)) ∙ length-from 0 k
 
   pub offs-all : (n : ℕ) → offs (n + 1) ≡ offsets row n
   unfolding offsets
   offs-all n = refl
 
-  pub length-table : (n : ℕ) → length (tableBy row n) ≡ n + 1 + length (rowsOf row n)
+  pub length-table : (n : ℕ) → length (tableBy row n) ≡ n + 1 + length (firstRows row n)
   unfolding tableBy
-  length-table n = length-append (offsets row n) (rowsOf row n) ∙ ap (λ k. k + length (rowsOf row n)) (ap length (sym (offs-all n)) ∙ length-offs (n + 1))
+  length-table n = length-append (offsets row n) (firstRows row n) ∙ ap (λ k. k + length (firstRows row n)) (ap length (sym (offs-all n)) ∙ length-offs (n + 1))
 
 -- ---- the same row by another test
-pub row-same : (f g : ℕ → ℕ → Bool) (n : ℕ) → n ≤ 512 → ((x y : ℕ) → y < 512 → f x y ≡ g x y) → rowOf f n ≡ rowOf g n
-unfolding rowOf
+pub row-same : (f g : ℕ → ℕ → Bool) (n : ℕ) → n ≤ 512 → ((x y : ℕ) → y < 512 → f x y ≡ g x y) → neighbourRow f n ≡ neighbourRow g n
+unfolding neighbourRow
 row-same f g n b h = fun-ext (λ u. keep-same (nextTo f u) (nextTo g u) 0 n (λ v l. ap (λ t. not (eqb u v) && t) (h u v (omega arith))))

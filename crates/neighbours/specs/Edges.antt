@@ -1,7 +1,7 @@
 -- The edges of a mesh.
 -- Assumes nothing.
 use Prim.Native.Nat.{ℕ}
-use mathlib.Core.List.{List, [], _∷_}
+use mathlib.Core.List.{[], _∷_}
 use lib.ListN.{length}
 use Rattle.base.specs.Lists.{keep, spread, upTo}
 use Rattle.space.specs.Mesh.{Mesh, together}

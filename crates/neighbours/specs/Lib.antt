@@ -1,4 +1,3 @@
 pub mod Table
 pub mod Edges
-pub mod Grown
-pub mod Reading
+pub mod between

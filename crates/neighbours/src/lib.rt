@@ -1,22 +1,22 @@
 // The neighbour table of a mesh, from the vertex numbers of its tetrahedra, written into a lent slice.
-use around::Row;
 use matrix::is_blank;
 use matrix::is_next;
 use matrix::join_all;
 use rooms::Filled;
 use rooms::put_if;
 use space::Vertex;
+use tets_around::Row;
 ghost use mathlib.Core.Path.{_≡_};
-ghost use mathlib.Core.List.{[]};
 ghost use mathlib.Core.Bool.{cond};
-ghost use Prim.Native.Nat.{ℕ, _+_, _*_, _/_, _<_, _≤_};
-ghost use lib.ListN.{length, getD};
-ghost use Rattle.around.specs.Index.{Labelled};
-ghost use Rattle.rooms.specs.Rooms.{filledBy, laidBy};
-ghost use Rattle.neighbours.specs.Table.{rowOf, rowsOf, offsets, tableIn};
-ghost use Rattle.neighbours.specs.Grown.{Grown, partOf, Few};
-ghost use Rattle.neighbours.specs.Reading.{rowIn, Rowed};
-ghost use Rattle.matrix.specs.Matrix.{isJoined, Empty};
+ghost use Prim.Native.Nat.{_+_, _<_, _≤_};
+ghost use lib.ListN.{length};
+ghost use Rattle.tets_around.specs.between.Index.{Labelled};
+ghost use Rattle.rooms.specs.between.Rooms.{filledBy, laidBy};
+ghost use Rattle.neighbours.specs.Table.{neighbourRow, firstRows, offsets};
+ghost use Rattle.neighbours.specs.between.InLabels.{tableIn};
+ghost use Rattle.neighbours.specs.between.Grown.{Grown, partOf, Few};
+ghost use Rattle.neighbours.specs.between.Reading.{rowIn, Rowed};
+ghost use Rattle.matrix.specs.between.Matrix.{isJoined, Empty};
 
 fn wide(x: u16) -> usize
     ensures { λ r. ⌜ (r ≡ x) × (r < 65536) ⌝ }
@@ -27,7 +27,8 @@ fn wide(x: u16) -> usize
 // ---- rows
 
 // Writes from `from` on those of the k vertices from v on that are next to u; the answer is where the next entry goes.
-// Every vertex is written, and counted where it is next to u: a branch would be slower. What stands behind the answer is not told.
+// Every vertex is written, and counted where it is next to u: a branch would be slower.
+// What stands behind the answer is not told.
 fn put_part(m: &[u8; 262144], u: Vertex, v: usize, k: usize, rows: &mut [u16], from: usize) -> usize
     requires { ⌜ ((u .0 < 512) × (v + k ≤ 512)) × (from + length (partOf (isJoined (now m)) (u .0) v k) < length (now rows)) ⌝ }
     ensures { λ r. ⌜ Grown from r (partOf (isJoined (now (m .entry))) (u .0) v k) (now (rows .entry)) (now (rows .exit)) ⌝ }
@@ -58,8 +59,8 @@ fn put_block(m: &[u8; 262144], u: Vertex, v: usize, rows: &mut [u16], from: usiz
 
 // Writes one row from `from` on: whole blocks, then the vertices that are left.
 fn put_row(m: &[u8; 262144], n: usize, u: Vertex, rows: &mut [u16], from: usize) -> usize
-    requires { ⌜ ((u .0 < 512) × (n ≤ 512)) × (from + length (rowOf (isJoined (now m)) n (u .0)) < length (now rows)) ⌝ }
-    ensures { λ r. ⌜ Grown from r (rowOf (isJoined (now (m .entry))) n (u .0)) (now (rows .entry)) (now (rows .exit)) ⌝ }
+    requires { ⌜ ((u .0 < 512) × (n ≤ 512)) × (from + length (neighbourRow (isJoined (now m)) n (u .0)) < length (now rows)) ⌝ }
+    ensures { λ r. ⌜ Grown from r (neighbourRow (isJoined (now (m .entry))) n (u .0)) (now (rows .entry)) (now (rows .exit)) ⌝ }
 {
     let mut at = from;
     let mut v = 0;
@@ -72,9 +73,9 @@ fn put_row(m: &[u8; 262144], n: usize, u: Vertex, rows: &mut [u16], from: usize)
 
 // Writes all rows, and where each starts; the answer is how many entries they have.
 fn put_rows(m: &[u8; 262144], n: usize, starts: &mut [u16], rows: &mut [u16]) -> usize
-    requires { ⌜ ((n ≤ 512) × (n < length (now starts))) × ((24576 < length (now rows)) × Few (rowOf (isJoined (now m)) n)) ⌝ }
-    ensures offsets { λ r. ⌜ Grown 0 (n + 1) (offsets (rowOf (isJoined (now (m .entry))) n) n) (now (starts .entry)) (now (starts .exit)) ⌝ }
-    ensures entries { λ r. ⌜ Grown 0 r (rowsOf (rowOf (isJoined (now (m .entry))) n) n) (now (rows .entry)) (now (rows .exit)) ⌝ }
+    requires { ⌜ ((n ≤ 512) × (n < length (now starts))) × ((24576 < length (now rows)) × Few (neighbourRow (isJoined (now m)) n)) ⌝ }
+    ensures offsets { λ r. ⌜ Grown 0 (n + 1) (offsets (neighbourRow (isJoined (now (m .entry))) n) n) (now (starts .entry)) (now (starts .exit)) ⌝ }
+    ensures entries { λ r. ⌜ Grown 0 r (firstRows (neighbourRow (isJoined (now (m .entry))) n) n) (now (rows .entry)) (now (rows .exit)) ⌝ }
 {
     let mut at = 0;
     let mut u = 0;
@@ -111,7 +112,8 @@ fn fill_by(
 }
 
 // Whether the slice has room for the neighbour table of n vertices; the table is written where it has, if it is wanted.
-// It is made in local room, since the slice must stay as it is where it is too short. A row's writing needs one entry more than it fills.
+// It is made in local room, since the slice must stay as it is where it is too short.
+// A row's writing needs one entry more than it fills.
 pub fn fill_if(labels: &[u16], n: usize, wanted: bool, table: &mut [u16]) -> Filled
     requires { ⌜ (n ≤ 512) × Labelled (now labels) n ⌝ }
     ensures answer { λ r. ⌜ r ≡ filledBy (tableIn (now (labels .entry)) n) (length (now (table .entry))) ⌝ }
@@ -126,7 +128,7 @@ pub fn fill_if(labels: &[u16], n: usize, wanted: bool, table: &mut [u16]) -> Fil
 // ---- reading a table
 
 // The row of a vertex: its neighbours, rising. It is empty where there is no such vertex.
-pub fn row_of(n: usize, table: &[u16], v: Vertex) -> Row
+pub fn neighbour_row(n: usize, table: &[u16], v: Vertex) -> Row
     requires { ⌜ Rowed n (now table) ⌝ }
     ensures { λ r. ⌜ r ≡ rowIn n (now (table .entry)) (v .0) ⌝ }
 {

@@ -8,7 +8,8 @@ use lib.Dec.{eqb}
 use lib.ListN.{length, getD, take}
 use Rattle.base.specs.Lists.{upTo, pad}
 use Rattle.base.proofs.Loop.{listed}
-use Rattle.templates.specs.Tables.{Template, hexahedron, prism, pyramid, templateOf, at, eight}
+use Rattle.templates.specs.Tables.{Template, hexahedron, prism, pyramid, templateOf, at}
+use Rattle.templates.specs.between.Eight.{eight}
 
 pub eight-all : (xs : List ℕ) → length xs ≡ 8 → eight xs ≡ xs
 eight-all xs e = ap (λ k. map (λ j. getD xs j 0) (upTo k)) (sym e) ∙ listed 0 xs

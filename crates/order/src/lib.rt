@@ -5,7 +5,8 @@ ghost use mathlib.Core.Bool.{cond};
 ghost use Prim.Native.Nat.{_≤_};
 ghost use lib.Dec.{eqb};
 ghost use Rattle.base.specs.Lists.{pad};
-ghost use Rattle.templates.specs.Tables.{prism, pyramid, templateOf, at, eight};
+ghost use Rattle.templates.specs.Tables.{prism, pyramid, templateOf, at};
+ghost use Rattle.templates.specs.between.Eight.{eight};
 
 // Of a hexahedron the place of each corner in search order, and the corner at each place.
 // Of the other kinds the two orders are one.

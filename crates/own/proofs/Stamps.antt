@@ -15,8 +15,8 @@ use Rattle.base.specs.Lists.{all, isIn}
 use Rattle.base.proofs.Lists.{fails, all-at, all-from, any-at}
 use Rattle.base.proofs.Runs.{place-of}
 use Rattle.space.specs.Arrays.{row4}
-use Rattle.cells.specs.Rows.{fours, owns}
-use Rattle.own.specs.Stamps.{hasStamp, Stamped}
+use Rattle.cells.specs.between.Rows.{fours, owns}
+use Rattle.own.specs.between.Stamps.{hasStamp, Stamped}
 
 -- where an element stands
 pub place-in : (x : ℕ) (xs : List ℕ) → isIn x xs ≡ true → (p : ℕ) × (p < length xs) × (getD xs p 0 ≡ x)

@@ -1,1 +1,1 @@
-pub mod Stamps
+pub mod between

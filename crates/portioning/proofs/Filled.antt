@@ -1,7 +1,7 @@
 -- The answers of `fill_if` for a mesh in arrays. Assumes nothing.
 use mathlib.Core.Path.{_≡_, sym, _∙_, ap}
 use mathlib.Core.Bool.{Bool, true, false, cond}
-use mathlib.Core.List.{List, [], _++_}
+use mathlib.Core.List.{List, _++_}
 use Prim.Native.Nat.{ℕ, _<_, _≤_}
 use native.Mathlib.Omega.{arith}
 use native.Mathlib.Decide.{decLt}
@@ -10,9 +10,10 @@ use lib.IntN.{ℤ}
 use lib.ListN.{length, drop}
 use Rattle.space.specs.Arrays.{meshOf}
 use Rattle.rooms.specs.declared.Filled.the-variants.{Entries, Short}
-use Rattle.rooms.specs.Rooms.{filledBy, laidBy}
-use Rattle.neighbours.specs.Table.{tableOf, tableIn}
-use Rattle.neighbours.specs.Reading.{Tabled}
+use Rattle.rooms.specs.between.Rooms.{filledBy, laidBy}
+use Rattle.neighbours.specs.Table.{tableOf}
+use Rattle.neighbours.specs.between.InLabels.{tableIn}
+use Rattle.neighbours.specs.between.Reading.{Tabled}
 use Rattle.neighbours.proofs.Tets.{table-in}
 
 module _ (zs : List ℤ) (ls ps : List ℕ) (n : ℕ) where

@@ -17,7 +17,7 @@ use Rattle.rule.specs.Rule.{tetRule}
 use Rattle.record.specs.Entries.{recordSize}
 use Rattle.records.specs.declared.Answer.{Answer}
 use Rattle.records.specs.declared.Answer.the-variants.{Refused}
-use Rattle.records.specs.Marks.{Written}
+use Rattle.records.specs.between.Written.{Written}
 use Rattle.records.proofs.Same.{answer-same}
 use Rattle.portioning.specs.Portion.{barred, portionBy, tableLeft, Promised}
 

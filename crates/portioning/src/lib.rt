@@ -1,4 +1,4 @@
-// The portion of a mesh in arrays: refusals 10 and 11, the neighbour table, the marks of the facets,
+// The portion of a mesh in arrays: refusals 10 and 11, the neighbour table, the hints of the facets,
 // and the records of the cells after a mark.
 use record::Mark;
 use record::SIZE;
@@ -9,11 +9,11 @@ ghost use mathlib.Core.List.{[]};
 ghost use lib.Dec.{leb};
 ghost use lib.ListN.{length};
 ghost use Rattle.space.specs.Arrays.{meshOf};
-ghost use Rattle.around.specs.Arrays.{Arrays};
-ghost use Rattle.neighbours.specs.Reading.{Tabled};
+ghost use Rattle.tets_around.specs.between.Arrays.{Arrays};
+ghost use Rattle.neighbours.specs.between.Reading.{Tabled};
 ghost use Rattle.record.specs.Entries.{recordSize};
 ghost use Rattle.record.specs.Marks.{markOf};
-ghost use Rattle.records.specs.Marks.{Written};
+ghost use Rattle.records.specs.between.Written.{Written};
 ghost use Rattle.portioning.specs.Portion.{Promised};
 
 // The room holds a record at least.
@@ -40,8 +40,8 @@ fn write_listed(
     ensures { λ r. ⌜ Written (meshOf (now (coords .entry)) (now (labels .entry)) (now (parts .entry)))
         (markOf mark) (now (records .entry)) r (now (records .exit)) ⌝ }
 {
-    let mut marks: [u8; 131072] = [0; 131072];
-    marks::note_facets(labels, &mut marks);
+    let mut hints: [u8; 131072] = [0; 131072];
+    facet_hints::hint_facets(labels, &mut hints);
     let all = levels::tables();
     records::write_cells(
         &all,
@@ -51,7 +51,7 @@ fn write_listed(
         n,
         offsets,
         entries,
-        &marks,
+        &hints,
         table,
         mark,
         records,

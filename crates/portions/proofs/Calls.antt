@@ -5,7 +5,7 @@ use mathlib.Core.Bool.{Bool, true, false}
 use mathlib.Core.Logic.{_⊎_, inl, inr, ⊎-elim}
 use mathlib.Core.List.{List, [], _∷_, _++_}
 use Prim.Native.Nat.{ℕ}
-use Rattle.portions.specs.Tuples.{Agree, Lt, Le, LeastAfter}
+use Rattle.portions.specs.between.Tuples.{Agree, Lt, Le, LeastAfter}
 use Rattle.portions.proofs.Tuples.{lt-irrefl, lt-trans, lt-agree, agree-lt, le-antisym}
 
 -- each is after the one before, the first after m

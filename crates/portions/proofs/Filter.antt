@@ -9,7 +9,7 @@ use native.Mathlib.Omega.{arith}
 use native.Mathlib.Decide.{decLt}
 use lib.ListN.{getD}
 use Rattle.base.specs.Lists.{keep}
-use Rattle.portions.specs.Tuples.{Agree, Lt, stack, tuples}
+use Rattle.portions.specs.between.Tuples.{Agree, Lt, stack, tuples}
 use Rattle.portions.proofs.Search.{Laws}
 use Rattle.portions.proofs.Calls.{Rising, All, Some, Same, Full, Listed, listed-full, full-unique}
 

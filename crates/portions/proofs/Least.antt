@@ -6,8 +6,8 @@ use mathlib.Core.Logic.{_⊎_, inl, inr, ⊎-elim}
 use mathlib.Core.Bool.{Bool, true, false, true≢false}
 use mathlib.Core.List.{List, _++_, List·Memᴰ, List·Memᴰ·append-cases, Memᴰ·append-left, Memᴰ·append-right}
 use Rattle.portions.specs.Portions.{Rule, isAfter}
-use Rattle.portions.specs.Tuples.{LeastAfter}
-use Rattle.portions.specs.Steps.{Next, Kind, Alike}
+use Rattle.portions.specs.between.Tuples.{LeastAfter}
+use Rattle.portions.specs.between.Steps.{Next, Kind, Alike}
 
 -- ── one kind ──
 

@@ -17,7 +17,7 @@ use Rattle.base.specs.Laid.{Laid}
 use Rattle.base.proofs.Lay.{laid-none, laid-more, laid-as}
 use Rattle.portions.specs.Portions.{rises, Rule, Answer, refused, given, reply, isAfter, after, remains, records, lastMark, portionOf, portion, Lawful}
 use Rattle.portions.specs.Run.{Outcome}
-use Rattle.portions.specs.Steps.{Next, Under, Come}
+use Rattle.portions.specs.between.Steps.{Next, Under, Come}
 use Rattle.base.proofs.Lists.{both-left, both-right, all-at}
 use Rattle.base.proofs.Members.{keep-at, keep-has, keep-none}
 use Rattle.portions.proofs.Order.{before-irrefl, before-trans, keep-rises}

@@ -14,7 +14,7 @@ use Rattle.base.specs.Laid.{lay}
 use Rattle.base.proofs.Lists.{all-at}
 use Rattle.base.proofs.Members.{all-left, all-right, all-both}
 use Rattle.portions.specs.Portions.{Rule, given, reply, after, records, lastMark, portion, portionOf, Lawful}
-use Rattle.portions.specs.Run.{Call, read, Calls, none, last, more, Promise, Demand3}
+use Rattle.portions.specs.Run.{Call, read, Calls, none, last, more, Promise, Demand3Over}
 use Rattle.portions.proofs.Portions.{records-append, cellsIn, call, some-outcome}
 
 module _ {A : Type 0} (rule : Rule A) where
@@ -105,7 +105,7 @@ module _ {A : Type 0} (rule : Rule A) (full : List A) (law : Lawful rule full) w
   unfolding portion portionOf records spread
   ends room h = rw (le-ltb room (rule .size) h, law .ended, take-nil {A = A} (room / rule .size), le-leb 0 (room / rule .size) (omega arith))
 
-  pub demand3 : Demand3 rule full
+  pub demand3 : Demand3Over rule full
   unfolding cellsIn
   demand3 = record {
     listed = λ rooms got k′ r.

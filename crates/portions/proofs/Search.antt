@@ -10,7 +10,7 @@ use borrow.Author.Count.{below-more}
 use native.Mathlib.Decide.{decLt, ℕ-discrete}
 use lib.ListN.{length, getD, set, length-set}
 use lib.Seq.{getD-set-same, getD-set-other}
-use Rattle.portions.specs.Tuples.{Agree, Lt, Le, LeastAfter, Skips}
+use Rattle.portions.specs.between.Tuples.{Agree, Lt, Le, LeastAfter, Skips}
 
 -- nothing lies from lo up to c + 1 that passes, where nothing does up to c, nor c
 pub missed-more : (P : ℕ → Type 0) (lo c : ℕ) → ((x : ℕ) → lo ≤ x → x < c → P x → ⊥) → (P c → ⊥) → (x : ℕ) → lo ≤ x → x < c + 1 → P x → ⊥

@@ -11,7 +11,7 @@ use native.Mathlib.Decide.{decLt}
 use Rattle.base.specs.Lists.{from}
 use Rattle.base.proofs.Members.{map-at}
 use Rattle.portions.specs.Portions.{before, rises}
-use Rattle.portions.specs.Tuples.{Agree, Lt, Le, LeastAfter, front, stack, tuples}
+use Rattle.portions.specs.between.Tuples.{Agree, Lt, Le, LeastAfter, front, stack, tuples}
 use Rattle.portions.proofs.Order.{before-less, before-same, before-cases, rises-append, rises-map, rises-so}
 
 -- ── the order is an order ──

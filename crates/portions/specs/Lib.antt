@@ -1,4 +1,3 @@
 pub mod Portions
 pub mod Run
-pub mod Steps
-pub mod Tuples
+pub mod between

@@ -1,4 +1,5 @@
--- What one portion promises, and what is promised of a caller's calls one after the other: demand 3, `Demand3` below.
+-- What one portion promises, and what is promised of a caller's calls one after the other:
+-- demand 3, `Demand3Over` below.
 -- Assumes nothing.
 use Prim.Native.Nat.{ℕ, _+_, _*_, _<_, _≤_, _/_, max}
 use mathlib.Core.Path.{_≡_}
@@ -49,7 +50,7 @@ module _ {A : Type 0} (rule : Rule A) (full : List A) where
     pub few : length rooms + length (after rule full k′) ≤ max 1 (length (after rule full k))
 
   -- demand 3: portions laid end to end are the cells after the first mark, whatever the mark and the rooms
-  pub record Demand3 : Type 0 where
+  pub record Demand3Over : Type 0 where
     -- from the start mark to the end the calls give the full list, in no more calls than it has cells, or one
     pub listed : (rooms : List (List ℕ)) (got k′ : List ℕ) → Calls (rule .start) rooms got true k′
         → (got ≡ records rule full) × (length rooms ≤ max 1 (length full))

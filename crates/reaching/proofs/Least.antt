@@ -8,7 +8,7 @@ use mathlib.Core.List.{List}
 use native.Mathlib.Omega.{arith}
 use native.Mathlib.Decide.{decLt}
 use lib.ListN.{length, getD}
-use Rattle.reaching.specs.Reaching.{Least, ByRow}
+use Rattle.reaching.specs.between.Reaching.{LeastAsked, ByRow}
 
 -- r is a test's result, a what it tests
 pub denied : {a r : Bool} → r ≡ a → r ≡ false → a ≡ true → ⊥
@@ -16,15 +16,15 @@ denied e f g = true≢false (sym g ∙ (sym e ∙ f))
 
 module _ {P : ℕ → Type 0} {lo best : ℕ} where
   -- nothing that is asked for is less
-  pub least-stays : ((v : ℕ) → P v → lo ≤ v → best ≤ v) → Least P lo best best
+  pub least-stays : ((v : ℕ) → P v → lo ≤ v → best ≤ v) → LeastAsked P lo best best
   least-stays f = record { most = omega arith; low = λ h. absurd (let z : ⊥ = omega arith in z); least = f }
 
   -- of less that is asked for
-  pub least-of : {Q : ℕ → Type 0} {r : ℕ} → Least Q lo best r → ((v : ℕ) → P v → Q v) → Least P lo best r
+  pub least-of : {Q : ℕ → Type 0} {r : ℕ} → LeastAsked Q lo best r → ((v : ℕ) → P v → Q v) → LeastAsked P lo best r
   least-of a f = record { most = a .most; low = a .low; least = λ v p h. a .least v (f v p) h }
 
   -- one after the other
-  pub least-then : {Q R : ℕ → Type 0} {a b : ℕ} → Least Q lo best a → Least R lo a b → ((v : ℕ) → P v → Q v ⊎ R v) → Least P lo best b
+  pub least-then : {Q R : ℕ → Type 0} {a b : ℕ} → LeastAsked Q lo best a → LeastAsked R lo a b → ((v : ℕ) → P v → Q v ⊎ R v) → LeastAsked P lo best b
   least-then {Q} {R} {a} {b} x y f = record {
     most = omega (arith, x .most, y .most);
     low = λ h. elim (decLt b a) [ yes l ↦ y .low l | no l ↦ let e : b ≡ a = omega (arith, y .most) in omega (arith, x .low (omega arith)) ];
@@ -49,10 +49,10 @@ module _ {P : ℕ → Type 0} {lo : ℕ} where
       rest = λ y p h. elim (decLt v y) [ yes l ↦ omega arith | no l ↦ let e : y ≡ v = omega (arith, a .rest y p h) in absurd (f (rw e at p)) ];
     }
 
-    pub passed-here : {best : ℕ} → v < best → Least P lo best v
+    pub passed-here : {best : ℕ} → v < best → LeastAsked P lo best v
     passed-here h = record { most = omega arith; low = λ g. a .low; least = a .rest }
 
-    pub passed-all : {best : ℕ} → best ≤ v → Least P lo best best
+    pub passed-all : {best : ℕ} → best ≤ v → LeastAsked P lo best best
     passed-all h = least-stays (λ y p g. omega (arith, a .rest y p g))
 
 -- ── a row ──
@@ -70,13 +70,13 @@ module _ {asked : ℕ → ℕ → Type 0} {row : List ℕ} where
   rows-end h v p = record { place = p .place; before = omega (arith, p .before); asks = p .asks }
 
 module _ {asked : ℕ → ℕ → Type 0} {row : List ℕ} {lo best : ℕ} where
-  pub row-none : Least (ByRow asked row 0) lo best best
+  pub row-none : LeastAsked (ByRow asked row 0) lo best best
   row-none = least-stays (λ v p h. absurd (let z : ⊥ = omega (arith, p .before) in z))
 
-  module _ {i b : ℕ} (a : Least (ByRow asked row i) lo best b) where
-    pub row-more : {r : ℕ} → Least (asked (getD row i 0)) lo b r → Least (ByRow asked row (i + 1)) lo best r
+  module _ {i b : ℕ} (a : LeastAsked (ByRow asked row i) lo best b) where
+    pub row-more : {r : ℕ} → LeastAsked (asked (getD row i 0)) lo b r → LeastAsked (ByRow asked row (i + 1)) lo best r
     row-more c = least-then a c earlier
 
     -- a loop that has come to the end
-    pub row-all : length row ≤ i → Least (ByRow asked row (length row)) lo best b
+    pub row-all : length row ≤ i → LeastAsked (ByRow asked row (length row)) lo best b
     row-all h = least-of a (rows-end h)

@@ -2,7 +2,7 @@
 -- Assumes nothing.
 use Prim.Native.Nat.{ℕ, suc, _+_, _-_, _≤_}
 use mathlib.Core.Path.{_≡_, refl, sym, _∙_, ap, ap₂}
-use mathlib.Core.Bool.{Bool, true}
+use mathlib.Core.Bool.{true}
 use mathlib.Core.List.{List, [], _∷_, _++_, append-assoc}
 use lib.ListN.{length, getD, take, drop, replicate, length-append, length-replicate, length-take}
 use lib.Seq.{take-at, drop-at, drop-drop, getD-drop}
@@ -11,8 +11,9 @@ use borrow.Author.Tests.{leb-true}
 use Rattle.base.specs.Lists.{pad}
 use Rattle.templates.specs.Tables.{templateOf}
 use Rattle.cells.specs.Full.{Cell, cell}
-use Rattle.record.specs.Entries.{cornerPlaces, tetPlaces, unused, countAt, tetsAt, recordSize, fits, entries, cellOf}
-use Rattle.record.specs.Marks.{cellMark, cornersOf, told, headOf}
+use Rattle.record.specs.Entries.{cornerPlaces, tetPlaces, unused, countAt, recordSize, fits, entries, cellOf}
+use Rattle.record.specs.Marks.{cellMark}
+use Rattle.record.specs.between.Heads.{cornersOf, cellFrom, headOf}
 
 pub pad-length : (k v : ℕ) (xs : List ℕ) → length xs ≤ k → length (pad k v xs) ≡ k
 pad-length k v xs h = length-append xs (replicate (k - length xs) v) ∙ omega (arith, length-replicate (k - length xs) v)
@@ -41,11 +42,11 @@ module _ (c : Cell) (s : Cornered c) where
       (ap₂ take (sym (getD-drop countAt (front ++ back) 0 0) ∙ ap (λ l. getD l 0 0) tail) (sym (drop-drop 1 countAt (front ++ back)) ∙ ap (drop 1) tail) ∙ take-at (c .tets) _ (length (c .tets)) refl)
 
   -- and so is the cell that its mark and its tetrahedra tell
-  pub told-is : told (cellMark c) (c .tets) ≡ c
+  pub told-is : cellFrom (cellMark c) (c .tets) ≡ c
   told-is = ap (λ a. cell (c .kind) a (c .tets)) (take-at (c .corners) _ (templateOf (c .kind) .corners) (s .sized))
 
 -- a head, and then the places for tetrahedra, of which the first `count` are used
-pub record-is : (k list : List ℕ) (count : ℕ) → count ≤ tetPlaces → list ≡ pad tetPlaces unused (take count list) → headOf k count ++ list ≡ entries (told k (take count list))
+pub record-is : (k list : List ℕ) (count : ℕ) → count ≤ tetPlaces → list ≡ pad tetPlaces unused (take count list) → headOf k count ++ list ≡ entries (cellFrom k (take count list))
 unfolding headOf entries
 record-is k list count h e =
     let ts = take count list in

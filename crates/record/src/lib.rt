@@ -1,12 +1,13 @@
 // The record of a cell and the mark that a listing stands at: how many entries there are, and where each stands.
 use rooms::put;
 ghost use mathlib.Core.Path.{_≡_};
-ghost use Prim.Native.Nat.{_+_, _*_, _<_, _≤_};
+ghost use Prim.Native.Nat.{_+_, _*_, _≤_};
 ghost use lib.ListN.{length, take};
 ghost use Rattle.base.specs.Lists.{pad};
 ghost use Rattle.base.specs.Laid.{Laid};
 ghost use Rattle.record.specs.Entries.{tetPlaces, unused, tetsAt, recordSize, entries};
-ghost use Rattle.record.specs.Marks.{endMark, markOf, nine, told, headOf};
+ghost use Rattle.record.specs.Marks.{endMark, markOf, nine};
+ghost use Rattle.record.specs.between.Heads.{cellFrom, headOf};
 
 // How many tetrahedra a record has places for.
 pub const TET_PLACES: usize = 25;
@@ -101,7 +102,7 @@ fn head_of(mark: Mark, count: usize) -> [u16; TETS_AT]
 pub fn put_record(room: &mut [u16], i: usize, mark: Mark, count: usize, list: [u16; TET_PLACES])
     requires { ⌜ (count ≤ tetPlaces) × (list ≡ pad tetPlaces unused (take count list)) ⌝ }
     requires { ⌜ i * recordSize + recordSize ≤ length (now room) ⌝ }
-    ensures { λ r. ⌜ Laid (i * recordSize) (entries (told (markOf mark) (take count list))) (now (room .entry)) (now (room .exit)) ⌝ }
+    ensures { λ r. ⌜ Laid (i * recordSize) (entries (cellFrom (markOf mark) (take count list))) (now (room .entry)) (now (room .exit)) ⌝ }
 {
     let from = i * SIZE;
     let head = head_of(mark, count);

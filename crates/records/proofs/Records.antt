@@ -13,22 +13,23 @@ use Rattle.space.specs.Mesh.{Mesh}
 use Rattle.cells.specs.Full.{fullList}
 use Rattle.record.specs.declared.Mark.{Mark}
 use Rattle.record.specs.Entries.{tetPlaces, entries}
-use Rattle.record.specs.Marks.{markOf, told}
+use Rattle.record.specs.Marks.{markOf}
+use Rattle.record.specs.between.Heads.{cellFrom}
 use Rattle.record.proofs.Entries.{told-is}
 use Rattle.filling.specs.declared.Tets.{Tets}
 use Rattle.filling.proofs.Found.{found-all}
 use Rattle.portions.specs.Portions as portions
 use Rattle.portions.specs.Portions.{reply, portion, records, remains}
-use Rattle.portions.specs.Steps.{Come}
+use Rattle.portions.specs.between.Steps.{Come}
 use Rattle.portions.proofs.Loop.{portion-short, portion-none, portion-full, portion-long, under-size, next-is, outcome-short, outcome-none, outcome-full, outcome-long, come-step}
 use Rattle.rule.specs.Rule.{tetRule}
 use Rattle.rule.proofs.Full.{lawful, full-sane}
-use Rattle.following.specs.Following.{Came}
+use Rattle.following.specs.between.Following.{Came}
 use Rattle.records.specs.declared.Answer.{Answer}
 use Rattle.records.specs.declared.Answer.the-variants.{Refused, Given}
-use Rattle.records.specs.declared.Reached.{Reached}
-use Rattle.records.specs.declared.Reached.the-variants.{Full, Ended, Long}
-use Rattle.records.specs.Marks.{Written, Filled, Reaches}
+use Rattle.records.specs.declared.Stopped.{Stopped}
+use Rattle.records.specs.declared.Stopped.the-variants.{Full, Ended, Long}
+use Rattle.records.specs.between.Written.{Written, AnswersFull, StopsAt}
 
 -- ── the cell that was found ──
 
@@ -40,8 +41,8 @@ module _ (m : Mesh) {k j : List ℕ} {found : Bool} {f : Tets} (n : Came m k fou
   fits-many h = lt-leb (length (n .cell .tets)) tetPlaces (omega (arith, n .tets y .count))
 
   -- its mark and its tetrahedra tell it
-  pub came-told : f .count ≤ tetPlaces → told j (take (f .count) (f .list)) ≡ n .cell
-  came-told h = ap₂ told (sym (n .marked y)) (found-all (n .tets y) h) ∙ told-is (n .cell) (full-sane m (n .next .among y) .cornered)
+  pub came-told : f .count ≤ tetPlaces → cellFrom j (take (f .count) (f .list)) ≡ n .cell
+  came-told h = ap₂ cellFrom (sym (n .marked y)) (found-all (n .tets y) h) ∙ told-is (n .cell) (full-sane m (n .next .among y) .cornered)
 
 -- ── the loop ──
 
@@ -80,24 +81,24 @@ module _ (m : Mesh) where
     }
 
     -- one more record
-    pub come-on : {found : Bool} {j′ l′ : List ℕ} {f : Tets} (n : Came m j found j′ f) → found ≡ true → i < length old / tetRule .size → f .count ≤ tetPlaces → Laid (i * tetRule .size) (entries (told j′ (take (f .count) (f .list)))) l l′ → Come tetRule (fullList m) k old j′ (i + 1) l′
+    pub come-on : {found : Bool} {j′ l′ : List ℕ} {f : Tets} (n : Came m j found j′ f) → found ≡ true → i < length old / tetRule .size → f .count ≤ tetPlaces → Laid (i * tetRule .size) (entries (cellFrom j′ (take (f .count) (f .list)))) l l′ → Come tetRule (fullList m) k old j′ (i + 1) l′
     come-on {l′ = l′} n y h o d =
         subst (λ q. Come tetRule (fullList m) k old q (i + 1) l′) (n .marked y)
         (come-step tetRule (fullList m) (lawful m) x (n .next) y h (fits-few m n y o) (laid-as d (ap entries (came-told m n y o))))
 
 -- ── the answer ──
 
-module _ (m : Mesh) {k old l : List ℕ} {p : Reached} (x : Reaches m k old p l) {i : ℕ} where
-  pub filled-full : {j : Mark} {left : Bool} {a : Answer} → p ≡ Full i j → tetRule .size ≤ length old → left ≡ remains tetRule (fullList m) (markOf j) → Filled i left j a → Written m k old a l
-  filled-full {j} {left} {a} e wide n f = go left refl (subst (λ q. Reaches m k old q l) e x)
+module _ (m : Mesh) {k old l : List ℕ} {p : Stopped} (x : StopsAt m k old p l) {i : ℕ} where
+  pub filled-full : {j : Mark} {left : Bool} {a : Answer} → p ≡ Full i j → tetRule .size ≤ length old → left ≡ remains tetRule (fullList m) (markOf j) → AnswersFull i left j a → Written m k old a l
+  filled-full {j} {left} {a} e wide n f = go left refl (subst (λ q. StopsAt m k old q l) e x)
     where
-      go : (b : Bool) → left ≡ b → Reaches m k old (Full i j) l → Written m k old a l
+      go : (b : Bool) → left ≡ b → StopsAt m k old (Full i j) l → Written m k old a l
       go true t y = subst (λ z. Written m k old z l) (sym (f .on t)) (written-full m (y .0) wide n j refl t (y .1))
       go false t y = subst (λ z. Written m k old z l) (sym (f .ends t .0)) (written-none m (y .0) wide n (f .mark) (f .ends t .1) t)
 
-  pub filled-end : {j : Mark} {a : Answer} → p ≡ Ended i → Filled i false j a → Written m k old a l
+  pub filled-end : {j : Mark} {a : Answer} → p ≡ Ended i → AnswersFull i false j a → Written m k old a l
   filled-end e f =
-      subst (λ z. Written m k old z l) (sym (f .ends refl .0)) (subst (λ q. Reaches m k old q l) e x (f .mark) (f .ends refl .1))
+      subst (λ z. Written m k old z l) (sym (f .ends refl .0)) (subst (λ q. StopsAt m k old q l) e x (f .mark) (f .ends refl .1))
 
   pub filled-long : p ≡ Long i → Written m k old (Refused 12 i) l
-  filled-long e = subst (λ q. Reaches m k old q l) e x
+  filled-long e = subst (λ q. StopsAt m k old q l) e x

@@ -1,21 +1,20 @@
 -- The promise of a portion leaves one answer and one content of the room.
 -- Assumes nothing.
-use Prim.Native.Nat.{ℕ, _*_}
-use mathlib.Core.Path.{_≡_, refl, sym, _∙_, ap}
+use Prim.Native.Nat.{ℕ}
+use mathlib.Core.Path.{_≡_, sym, _∙_, ap}
 use mathlib.Core.Bool.{Bool, true, false, true≢false}
-use mathlib.Core.List.{List, [], _∷_}
+use mathlib.Core.List.{List, []}
 use lib.ListN.{getD}
 use native.Mathlib.Omega.{arith}
-use Rattle.base.specs.Laid.{lay}
 use Rattle.space.specs.Mesh.{Mesh}
 use Rattle.portions.specs.Portions as portions
 use Rattle.portions.specs.Portions.{refused, given}
-use Rattle.rule.specs.Rule.{tetRule}
 use Rattle.record.specs.declared.Mark.{Mark}
 use Rattle.record.specs.Marks.{markOf}
 use Rattle.records.specs.declared.Answer.{Answer}
 use Rattle.records.specs.declared.Answer.the-variants.{Refused, Given}
-use Rattle.records.specs.Marks.{says, wrote, Written}
+use Rattle.records.specs.Marks.{says, wrote}
+use Rattle.records.specs.between.Written.{Written}
 
 -- the parts of what is said; a default where it has none
 abbrev refusal : portions.Answer → ℕ

@@ -12,10 +12,10 @@ ghost use lib.ListN.{length};
 ghost use Rattle.space.specs.Arrays.{meshOf};
 ghost use Rattle.record.specs.Entries.{recordSize};
 ghost use Rattle.record.specs.Marks.{markOf};
-ghost use Rattle.levels.specs.Levels.{levels};
-ghost use Rattle.search.specs.Ready.{Ready};
+ghost use Rattle.levels.specs.between.Levels.{levels};
+ghost use Rattle.search.specs.between.Ready.{Ready};
 ghost use Rattle.records.specs.declared.Answer.the-variants.{Refused};
-ghost use Rattle.records.specs.Marks.{Written, Filled, Reaches};
+ghost use Rattle.records.specs.between.Written.{Written, AnswersFull, StopsAt};
 
 // A refusal by its number, with how many records were written before it:
 // only 12, where the next cell has more tetrahedra than a record can hold, comes after any.
@@ -39,7 +39,7 @@ fn refused(number: u8, written: usize) -> Answer
 
 // How far the records came, and how many there are: the room is full, no cell is left,
 // or the next one is too long for a record.
-pub enum Reached {
+pub enum Stopped {
     Full { count: usize, mark: Mark },
     Ended { count: usize },
     Long { count: usize },
@@ -54,15 +54,15 @@ fn write_up(
     n: usize,
     offsets: &[u16],
     entries: &[u16],
-    marks: &[u8],
+    hints: &[u8],
     table: &[u16],
     mark: Mark,
     records: &mut [u16],
-) -> Reached
+) -> Stopped
     requires { ⌜ now tables ≡ levels ⌝ }
-    requires { ⌜ Ready (now coords) (now labels) (now parts) n (now offsets) (now entries) (now marks) (now table) ⌝ }
+    requires { ⌜ Ready (now coords) (now labels) (now parts) n (now offsets) (now entries) (now hints) (now table) ⌝ }
     requires { ⌜ recordSize ≤ length (now records) ⌝ }
-    ensures { λ r. ⌜ Reaches (meshOf (now (coords .entry)) (now (labels .entry)) (now (parts .entry)))
+    ensures { λ r. ⌜ StopsAt (meshOf (now (coords .entry)) (now (labels .entry)) (now (parts .entry)))
         (markOf mark) (now (records .entry)) r (now (records .exit)) ⌝ }
 {
     let most = records.len() / SIZE;
@@ -77,30 +77,30 @@ fn write_up(
             n,
             offsets,
             entries,
-            marks,
+            hints,
             table,
             k,
             0 < i,
         );
         if !s.found {
-            return Reached::Ended { count: i };
+            return Stopped::Ended { count: i };
         }
         let c = s.mark;
         let tets = s.tets;
         if TET_PLACES < tets.count {
-            return Reached::Long { count: i };
+            return Stopped::Long { count: i };
         }
         let list = tets.list;
         put_record(records, i, c, tets.count, list);
         i += 1;
         k = c;
     }
-    Reached::Full { count: i, mark: k }
+    Stopped::Full { count: i, mark: k }
 }
 
 // The answer for a room that was filled up to a mark: the end where no cell is left behind it.
-fn filled(count: usize, left: bool, mark: Mark) -> Answer
-    ensures { λ r. ⌜ Filled count left mark r ⌝ }
+fn answer_full(count: usize, left: bool, mark: Mark) -> Answer
+    ensures { λ r. ⌜ AnswersFull count left mark r ⌝ }
 {
     if left {
         Answer::Given {
@@ -127,13 +127,13 @@ pub fn write_cells(
     n: usize,
     offsets: &[u16],
     entries: &[u16],
-    marks: &[u8],
+    hints: &[u8],
     table: &[u16],
     mark: Mark,
     records: &mut [u16],
 ) -> Answer
     requires { ⌜ now tables ≡ levels ⌝ }
-    requires { ⌜ Ready (now coords) (now labels) (now parts) n (now offsets) (now entries) (now marks) (now table) ⌝ }
+    requires { ⌜ Ready (now coords) (now labels) (now parts) n (now offsets) (now entries) (now hints) (now table) ⌝ }
     ensures { λ r. ⌜ Written (meshOf (now (coords .entry)) (now (labels .entry)) (now (parts .entry)))
         (markOf mark) (now (records .entry)) r (now (records .exit)) ⌝ }
 {
@@ -148,13 +148,13 @@ pub fn write_cells(
         n,
         offsets,
         entries,
-        marks,
+        hints,
         table,
         mark,
         records,
     );
     match far {
-        Reached::Full { count, mark } => {
+        Stopped::Full { count, mark } => {
             let left = is_any_left(
                 tables,
                 coords,
@@ -163,13 +163,13 @@ pub fn write_cells(
                 n,
                 offsets,
                 entries,
-                marks,
+                hints,
                 table,
                 mark,
             );
-            filled(count, left, mark)
+            answer_full(count, left, mark)
         }
-        Reached::Ended { count } => filled(count, false, mark),
-        Reached::Long { count } => refused(12, count),
+        Stopped::Ended { count } => answer_full(count, false, mark),
+        Stopped::Long { count } => refused(12, count),
     }
 }

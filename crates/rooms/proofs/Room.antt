@@ -9,7 +9,7 @@ use lib.ListN.{length}
 use Rattle.base.specs.Laid.{Laid}
 use Rattle.base.proofs.Lay.{lay-front}
 use Rattle.rooms.specs.declared.Filled.the-variants.{Entries, Short}
-use Rattle.rooms.specs.Rooms.{filledBy, laidBy}
+use Rattle.rooms.specs.between.Rooms.{filledBy, laidBy}
 
 module _ (xs old : List ℕ) where
   pub short-answer : length old < length xs → Short ≡ filledBy xs (length old)

@@ -5,7 +5,7 @@ ghost use mathlib.Core.Bool.{cond};
 ghost use Prim.Native.Nat.{_+_, _≤_};
 ghost use lib.ListN.{length};
 ghost use Rattle.base.specs.Laid.{Laid};
-ghost use Rattle.rooms.specs.Rooms.{filledBy, laidBy};
+ghost use Rattle.rooms.specs.between.Rooms.{filledBy, laidBy};
 
 // How many entries were wanted, where there is room for them.
 pub enum Filled {

@@ -1,7 +1,7 @@
 -- The rule keeps to the laws: the full list rises, the start is before it and nine zeros after it,
 -- a record has its size and tells its cell. And its order is the one of `comesAfter`.
 -- Assumes nothing.
-use Prim.Native.Nat.{ℕ, zero, suc, _-_, _<_, _≤_}
+use Prim.Native.Nat.{ℕ, zero, suc, _-_, _<_}
 use mathlib.Core.Path.{_≡_, refl, sym, _∙_, ap, ap₂}
 use mathlib.Core.Logic.{_⊎_, inl, inr, ⊎-elim}
 use mathlib.Core.Bool.{Bool, true, false, cond, _&&_, _||_}
@@ -20,7 +20,7 @@ use Rattle.cells.specs.Full.{Cell, cellsOf, fullList}
 use Rattle.record.specs.Entries.{cornerPlaces, cellOf}
 use Rattle.record.proofs.Entries.{Cornered, entries-length, tells}
 use Rattle.portions.specs.Portions.{before, rises, isAfter, after, Lawful, Telling, readBack}
-use Rattle.portions.specs.Run.{Calls, Demand3}
+use Rattle.portions.specs.Run.{Calls, Demand3Over}
 use Rattle.portions.proofs.Order.{before-less, before-cases, before-total, rises-append}
 use Rattle.portions.proofs.Run.{demand3}
 use Rattle.portions.proofs.Firm.{calls-tell}
@@ -99,7 +99,7 @@ module _ (m : Mesh) where
   telling = record { cellOf = cellOf; tells = λ c h f. tells c (full-sane h .cornered) }
 
 -- demand 3 holds of the full list
-pub full-demand3 : (m : Mesh) → Demand3 tetRule (fullList m)
+pub full-demand3 : (m : Mesh) → Demand3Over tetRule (fullList m)
 full-demand3 m = demand3 tetRule (fullList m) (lawful m)
 
 -- and what calls gave from the start mark to the end, read back, is the full list

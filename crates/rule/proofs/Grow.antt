@@ -12,18 +12,18 @@ use borrow.Author.Tests.{ltb-true, lt-ltb}
 use Rattle.base.specs.Lists.{all, keep, upTo, isIn, distinct}
 use Rattle.base.proofs.Lists.{both-left, both-right, all-at, all-from}
 use Rattle.base.proofs.Members.{keep-at, keep-has, all-both, all-left, all-right, spread-at, spread-has, map-at, map-has, from-at, from-has}
-use Rattle.templates.specs.Tables.{Place}
+use Rattle.templates.specs.Tables.{Placing}
 use Rattle.templates.proofs.Tests.{both, at-isIn, distinct-at}
 use Rattle.cells.specs.Full.{allowed, grow}
 use Rattle.portions.specs.Portions.{before, rises}
-use Rattle.rule.specs.Rule.{goesOn}
+use Rattle.rule.specs.between.Leaf.{placedAfter}
 use Rattle.portions.proofs.Order.{before-less, before-same, keep-rises, rises-spread, from-rises}
 
 -- ── candidates rise ──
 
-module _ (ok : Place → List ℕ → ℕ → Bool) (n : ℕ) where
+module _ (ok : Placing → List ℕ → ℕ → Bool) (n : ℕ) where
   -- each goes on from s, by a number for each place
-  pub grow-shape : (ps : List Place) (s : List ℕ) {t : List ℕ} → List·Memᴰ t (grow ok n ps s) → (u : List ℕ) × (t ≡ s ++ u) × (length u ≡ length ps)
+  pub grow-shape : (ps : List Placing) (s : List ℕ) {t : List ℕ} → List·Memᴰ t (grow ok n ps s) → (u : List ℕ) × (t ≡ s ++ u) × (length u ≡ length ps)
   unfolding grow
   grow-shape [] s h = ([], List·Memᴰ·eq-of-singleton h ∙ sym (append-nil s), refl)
   grow-shape (p ∷ ps) s h =
@@ -35,7 +35,7 @@ module _ (ok : Place → List ℕ → ℕ → Bool) (n : ℕ) where
   before-append [] v w x y h = before-less v w x y h
   before-append (a ∷ s) v w x y h = before-same a _ _ ∙ before-append s v w x y h
 
-  pub grow-rises : (ps : List Place) (s : List ℕ) → rises before (grow ok n ps s) ≡ true
+  pub grow-rises : (ps : List Placing) (s : List ℕ) → rises before (grow ok n ps s) ≡ true
   unfolding grow rises
   grow-rises [] s = refl
   grow-rises (p ∷ ps) s =
@@ -49,12 +49,12 @@ module _ (ok : Place → List ℕ → ℕ → Bool) (n : ℕ) where
 -- ── which they are ──
 
 -- the pairs of places at which the first must have the less, of places from i on
-abbrev pub pairsFrom : ℕ → List Place → List (List ℕ)
+abbrev pub pairsFrom : ℕ → List Placing → List (List ℕ)
 pairsFrom i [] = []
 pairsFrom i (p ∷ ps) = map (λ k. k ∷ i ∷ []) (p .below) ++ pairsFrom (suc i) ps
 
 -- each must be above earlier places alone
-abbrev pub inOrder : ℕ → List Place → Bool
+abbrev pub inOrder : ℕ → List Placing → Bool
 inOrder i [] = true
 inOrder i (p ∷ ps) = all (λ k. ltb k i) (p .below) && inOrder (suc i) ps
 
@@ -87,7 +87,7 @@ new s v u d = isIn-none v s (λ e.
 
 module _ (n : ℕ) where
   -- a tuple of distinct vertices below n that is less at each pair is a candidate
-  pub grow-has : (ps : List Place) (s u : List ℕ) → length u ≡ length ps → all (λ v. ltb v n) u ≡ true → distinct (s ++ u) ≡ true → inOrder (length s) ps ≡ true → all (lessAt (s ++ u)) (pairsFrom (length s) ps) ≡ true → List·Memᴰ (s ++ u) (grow allowed n ps s)
+  pub grow-has : (ps : List Placing) (s u : List ℕ) → length u ≡ length ps → all (λ v. ltb v n) u ≡ true → distinct (s ++ u) ≡ true → inOrder (length s) ps ≡ true → all (lessAt (s ++ u)) (pairsFrom (length s) ps) ≡ true → List·Memᴰ (s ++ u) (grow allowed n ps s)
   unfolding grow allowed
   grow-has [] s [] l b d o e = List·Memᴰ·head (append-nil s)
   grow-has [] s (v ∷ u) l b d o e = absurd (let z : ⊥ = omega arith in z)
@@ -108,7 +108,7 @@ module _ (n : ℕ) where
           ap₂ ltb (sym (getD-left s (v ∷ u) k (ltb-true k (length s) (all-at (λ k. ltb k (length s)) (p .below) (both-left _ _ o) h)))) (sym (getD-here s v u)) ∙ less
 
   -- and a candidate is less at each pair
-  pub grow-less : (ps : List Place) (s : List ℕ) {w : List ℕ} → inOrder (length s) ps ≡ true → List·Memᴰ w (grow allowed n ps s) → all (lessAt w) (pairsFrom (length s) ps) ≡ true
+  pub grow-less : (ps : List Placing) (s : List ℕ) {w : List ℕ} → inOrder (length s) ps ≡ true → List·Memᴰ w (grow allowed n ps s) → all (lessAt w) (pairsFrom (length s) ps) ≡ true
   unfolding grow allowed
   grow-less [] s o h = refl
   grow-less (p ∷ ps) s {w} o h =
@@ -136,8 +136,8 @@ module _ (n : ℕ) where
 -- ── place by place ──
 
 module _ (n : ℕ) where
-  pub goes-has : (ps : List Place) (s u : List ℕ) → goesOn n ps s u ≡ true → List·Memᴰ (s ++ u) (grow allowed n ps s)
-  unfolding goesOn grow
+  pub goes-has : (ps : List Placing) (s u : List ℕ) → placedAfter n ps s u ≡ true → List·Memᴰ (s ++ u) (grow allowed n ps s)
+  unfolding placedAfter grow
   goes-has [] s [] e = List·Memᴰ·head (append-nil s)
   goes-has [] s (v ∷ u) e = absurd (true≢false (sym e))
   goes-has (p ∷ ps) s [] e = absurd (true≢false (sym e))
@@ -148,8 +148,8 @@ module _ (n : ℕ) where
       (keep-has (allowed p s) (upTo n) (from-has 0 n v (omega arith) (omega (arith, ltb-true v n a))) (both-left (allowed p s v) _ b))
       (subst (λ l. List·Memᴰ l (grow allowed n ps (s ++ (v ∷ [])))) (append-assoc s (v ∷ []) u) (goes-has ps (s ++ (v ∷ [])) u (both-right (allowed p s v) _ b)))
 
-  pub has-goes : (ps : List Place) (s : List ℕ) {t : List ℕ} → List·Memᴰ t (grow allowed n ps s) → (u : List ℕ) × (t ≡ s ++ u) × (goesOn n ps s u ≡ true)
-  unfolding goesOn grow
+  pub has-goes : (ps : List Placing) (s : List ℕ) {t : List ℕ} → List·Memᴰ t (grow allowed n ps s) → (u : List ℕ) × (t ≡ s ++ u) × (placedAfter n ps s u ≡ true)
+  unfolding placedAfter grow
   has-goes [] s h = ([], List·Memᴰ·eq-of-singleton h ∙ sym (append-nil s), refl)
   has-goes (p ∷ ps) s h =
       let r = spread-at (λ v. grow allowed n ps (s ++ (v ∷ []))) (keep (allowed p s) (upTo n)) h in

@@ -12,13 +12,14 @@ use Rattle.space.specs.Mesh.{Mesh}
 use Rattle.templates.specs.Tables.{Template, hexahedron, prism, pyramid, templateOf, at}
 use Rattle.cells.specs.Full.{Cell, cellsOf, fullList}
 use Rattle.portions.specs.Portions.{before, isAfter, remains}
-use Rattle.portions.specs.Tuples.{Agree, front}
-use Rattle.portions.specs.Steps.{Next, Alike}
+use Rattle.portions.specs.between.Tuples.{Agree, front}
+use Rattle.portions.specs.between.Steps.{Next, Alike}
 use Rattle.portions.proofs.Order.{before-less, before-same, before-cases}
 use Rattle.portions.proofs.Tuples.{lt-of, of-lt, agree-at}
 use Rattle.portions.proofs.Loop.{later-remains}
 use Rattle.portions.proofs.Least.{next-kind, next-past, next-left, next-right}
-use Rattle.rule.specs.Rule.{key, tetRule, isLeaf, cellAt, Searched, past, within, whole}
+use Rattle.rule.specs.Rule.{key, tetRule}
+use Rattle.rule.specs.between.Leaf.{isLeaf, cellAt, Searched, past, within, whole}
 use Rattle.rule.proofs.OneKind.{Flat, flat-hexahedron, flat-prism, flat-pyramid, kind, kind-at, leaf-key, zeros-before}
 use Rattle.rule.proofs.Full.{full-is, fall, hexahedra-first, lawful}
 

@@ -15,19 +15,20 @@ use Rattle.base.proofs.Loop.{length-up, getD-up}
 use Rattle.base.proofs.Members.{keep-at, keep-has, map-at, map-has}
 use Rattle.space.specs.Mesh.{Mesh}
 use Rattle.templates.specs.Tables.{Template, hexahedron, prism, pyramid, templates, templateOf, at}
-use Rattle.least.specs.Least.{isLeast, risesAt, rises as risesPair}
+use Rattle.least.specs.Least.{isLeast, risesAt, firstIsLess as risesPair}
 use Rattle.templates.proofs.Tests.{agree, both, covers, at-all}
 use Rattle.least.proofs.Turns.{cornerTests, corners-all, turned-distinct}
 use Rattle.cells.specs.Cells.{isCell}
 use Rattle.cells.proofs.Conditions.{cell-corners}
 use Rattle.cells.specs.Full.{Cell, cellIn, allowed, grow, universe, cellsOf}
 use Rattle.portions.specs.Portions.{before, rises, isAfter}
-use Rattle.portions.specs.Tuples.{Agree, Lt}
-use Rattle.portions.specs.Steps.{Kind}
+use Rattle.portions.specs.between.Tuples.{Agree, Lt}
+use Rattle.portions.specs.between.Steps.{Kind}
 use Rattle.portions.proofs.Order.{before-same, keep-rises, rises-so, rises-map}
 use Rattle.portions.proofs.Search.{Laws}
 use Rattle.portions.proofs.Tuples.{of-lt, agree-at}
-use Rattle.rule.specs.Rule.{key, tetRule, isLeaf, goesOn, cellAt}
+use Rattle.rule.specs.Rule.{key, tetRule}
+use Rattle.rule.specs.between.Leaf.{isLeaf, placedAfter, cellAt}
 use Rattle.rule.proofs.Grow.{grow-shape, grow-rises, grow-has, grow-less, goes-has, has-goes, pairsFrom, inOrder, lessAt}
 
 -- the order of the list
@@ -207,11 +208,11 @@ module _ (m : Mesh) (t : Template) (flat : Flat t) where
       getD-in (x ∷ xs) (suc i) h = List·Memᴰ·tail (getD-in xs i (omega arith))
 
   -- the same test, place by place
-  pub leaf-goes : (s : List ℕ) → isLeaf m t s ≡ (goesOn (length (m .points)) (t .search) [] (at s (upTo (t .corners))) && isCell m t (at s (t .places)))
+  pub leaf-goes : (s : List ℕ) → isLeaf m t s ≡ (placedAfter (length (m .points)) (t .search) [] (at s (upTo (t .corners))) && isCell m t (at s (t .places)))
   unfolding candidates front isLeaf
   leaf-goes s =
       agree _ _
-      (λ e. let g = has-goes (length (m .points)) (t .search) [] (leaf-in s e) in both _ _ (ap (goesOn (length (m .points)) (t .search) []) (g .1) ∙ g .2) (leaf-cell s e))
+      (λ e. let g = has-goes (length (m .points)) (t .search) [] (leaf-in s e) in both _ _ (ap (placedAfter (length (m .points)) (t .search) []) (g .1) ∙ g .2) (leaf-cell s e))
       (λ e.
       let h = goes-has (length (m .points)) (t .search) [] (at s (upTo (t .corners))) (both-left _ (isCell m t (at s (t .places))) e) in
-      ap (λ c. isLeast t c && isCell m t c) (sym (flat .framed s)) ∙ leaf-of (front s) h (ap (isCell m t) (flat .framed s) ∙ both-right (goesOn (length (m .points)) (t .search) [] (at s (upTo (t .corners)))) _ e))
+      ap (λ c. isLeast t c && isCell m t c) (sym (flat .framed s)) ∙ leaf-of (front s) h (ap (isCell m t) (flat .framed s) ∙ both-right (placedAfter (length (m .points)) (t .search) [] (at s (upTo (t .corners)))) _ e))

@@ -2,31 +2,30 @@
 -- Assumes nothing.
 use Prim.Native.Nat.{ℕ, _+_, _-_, _/_, _<_}
 use mathlib.Core.Path.{_≡_, refl, sym, _∙_, ap, subst}
-use mathlib.Core.Logic.{_⊎_, inl, inr, ⊎-elim}
-use mathlib.Core.Bool.{Bool, true, false, _&&_, true≢false}
+use mathlib.Core.Logic.{_⊎_, inl, inr}
+use mathlib.Core.Bool.{true}
 use mathlib.Core.List.{List, [], _∷_, List·Memᴰ, List·Memᴰ·head, List·Memᴰ·tail}
 use native.Mathlib.Omega.{arith}
 use native.Mathlib.Decide.{decLt}
 use borrow.Author.Count.{below-more}
-use borrow.Author.Tests.{eq-eqb}
 use lib.Dec.{eqb}
 use lib.IntN.{ℤ}
 use lib.ListN.{length, getD, set}
 use lib.Seq.{getD-set-same, getD-set-other}
 use Rattle.base.proofs.Loop.{length-up}
 use Rattle.space.specs.Arrays.{pointAt, meshOf}
-use Rattle.around.specs.Index.{togetherIn}
+use Rattle.tets_around.specs.Sharing.{togetherIn}
 use Rattle.templates.specs.Tables.{templateOf}
-use Rattle.around.specs.declared.Row.{Row}
-use Rattle.neighbours.specs.Reading.{rowIn, entriesOf, InRow}
+use Rattle.tets_around.specs.declared.Row.{Row}
+use Rattle.neighbours.specs.between.Reading.{rowIn, entriesOf, InRow}
 use Rattle.neighbours.proofs.Reading.{tabled-rowed, row-of-in, entries-rise, entries-have}
-use Rattle.portions.specs.Tuples.{Agree, Skips}
-use Rattle.rule.specs.Rule.{isLeaf}
-use Rattle.levels.specs.Levels.{base, joined, also, third}
+use Rattle.portions.specs.between.Tuples.{Agree, Skips}
+use Rattle.rule.specs.between.Leaf.{isLeaf}
+use Rattle.levels.specs.between.Levels.{base, joined, also, third}
 use Rattle.levels.specs.declared.Place.{Place}
-use Rattle.levels.specs.Fits.{fits, fitsWith}
-use Rattle.candidates.specs.Met.{Served, Met}
-use Rattle.search.specs.Ready.{Ready, Sought, Drawn, OfKind, Last, Begins}
+use Rattle.levels.specs.between.Passing.{passesLevel, passesWith}
+use Rattle.candidates.specs.between.Met.{Served, Met}
+use Rattle.search.specs.between.Ready.{Ready, Sought, Drawn, OfKind, Last, Begins}
 use Rattle.portions.proofs.Search.{Laws}
 use Rattle.rule.proofs.OneKind.{leaf-laws}
 use Rattle.levels.proofs.Right.{joinedBy}
@@ -40,21 +39,21 @@ set-agrees t d l s a v q =
     (λ j b. getD-set-other t d j v 0 (λ e. omega arith) ∙ a j b)
     (getD-set-same t d v 0 l ∙ q)
 
-module _ {zs : List ℤ} {ls ps : List ℕ} {n : ℕ} {os es ms table : List ℕ} (g : Ready zs ls ps n os es ms table) where
-  pub sought-of : Sought zs n ms table
+module _ {zs : List ℤ} {ls ps : List ℕ} {n : ℕ} {os es hs table : List ℕ} (g : Ready zs ls ps n os es hs table) where
+  pub sought-of : Sought zs n hs table
   sought-of = record {
     close = g .arrays .close;
     counted = g .arrays .counted;
-    lent = record { few = g .arrays .few; rowed = tabled-rowed (g .tabled); sized = g .marked .size };
+    lent = record { few = g .arrays .few; rowed = tabled-rowed (g .tabled); sized = g .hinted .size };
     served = λ v. let w = row-of-in (g .tabled) v refl in record { inside = w .inside; rises = entries-rise w };
   }
 
-  pub drawn-of : Drawn ls n ms table
-  drawn-of = record { labelled = g .arrays .indexed .labelled; marked = g .marked; tabled = g .tabled }
+  pub drawn-of : Drawn ls n hs table
+  drawn-of = record { labelled = g .arrays .indexed .labelled; hinted = g .hinted; tabled = g .tabled }
 
 -- ── rows that serve ──
 
-pub points-are : {zs : List ℤ} {n : ℕ} {ms table : List ℕ} → Sought zs n ms table → (ls ps : List ℕ) → length (meshOf zs ls ps .points) ≡ n
+pub points-are : {zs : List ℤ} {n : ℕ} {hs table : List ℕ} → Sought zs n hs table → (ls ps : List ℕ) → length (meshOf zs ls ps .points) ≡ n
 points-are {zs} g ls ps = length-up (pointAt zs) (length zs / 3) ∙ g .counted
 
 -- of three rows that are as asked two are chosen
@@ -66,7 +65,7 @@ module _ (P : Row → Type 0) where
   chosen-two : {r q s f one two : Row} → P r → P q → P s → (f ≡ r) ⊎ (f ≡ q) → (one ≡ f) ⊎ (one ≡ s) → (two ≡ f) ⊎ (two ≡ s) → P one × P two
   chosen-two x y z a b c = let f = chosen x y a in (chosen f z b, chosen f z c)
 
-module _ {zs : List ℤ} {n : ℕ} {ms table : List ℕ} (g : Sought zs n ms table) where
+module _ {zs : List ℤ} {n : ℕ} {hs table : List ℕ} (g : Sought zs n hs table) where
   pub two-served : (i j l : ℕ) {r q s f one two : Row} → r ≡ rowIn n table i → q ≡ rowIn n table j → s ≡ rowIn n table l → (f ≡ r) ⊎ (f ≡ q) → (one ≡ f) ⊎ (one ≡ s) → (two ≡ f) ⊎ (two ≡ s) → Served table one × Served table two
   two-served i j l x y z = chosen-two (Served table) (there i x) (there j y) (there l z)
     where
@@ -82,7 +81,7 @@ module _ {zs : List ℤ} {n : ℕ} {ms table : List ℕ} (g : Sought zs n ms tab
 
     -- the row has every vertex with which a listed tuple goes on
     pub record Serves (r : Row) : Type 0 where
-      pub has : (ls ps s : List ℕ) → Drawn ls n ms table → isLeaf (meshOf zs ls ps) (templateOf k) s ≡ true → Agree (place .at) (place .tuple) s → InRow table r (getD s (place .at) 0)
+      pub has : (ls ps s : List ℕ) → Drawn ls n hs table → isLeaf (meshOf zs ls ps) (templateOf k) s ≡ true → Agree (place .at) (place .tuple) s → InRow table r (getD s (place .at) 0)
 
     -- the row of the entry at p, where a listed tuple's corner there is joined to the one at d
     row-serves : (p : ℕ) → ((ls ps s : List ℕ) → isLeaf (meshOf zs ls ps) (templateOf k) s ≡ true → Joined ls s p d) → Serves (rowIn n table (getD t p 0))
@@ -106,14 +105,14 @@ module _ {zs : List ℤ} {n : ℕ} {ms table : List ℕ} (g : Sought zs n ms tab
       two-serve e1 e2 e3 w1 w2 w3 =
           chosen-two Serves (joined-serves (List·Memᴰ·head refl) e1 w1) (joined-serves (List·Memᴰ·tail (List·Memᴰ·head refl)) e2 w2) (joined-serves (List·Memᴰ·tail (List·Memᴰ·tail (List·Memᴰ·head refl))) e3 w3)
 
-    pub meet-skips : place .at < length (place .tuple) → {r q : Row} → Serves r × Serves q → {lo v : ℕ} → Met (fitsWith zs ms place) (entriesOf table r) (entriesOf table q) lo v → (ls ps : List ℕ) → Drawn ls n ms table → Skips (isLeaf (meshOf zs ls ps) (templateOf k)) (place .tuple) (place .at) n lo v
+    pub meet-skips : place .at < length (place .tuple) → {r q : Row} → Serves r × Serves q → {lo v : ℕ} → Met (passesWith zs hs place) (entriesOf table r) (entriesOf table q) lo v → (ls ps : List ℕ) → Drawn ls n hs table → Skips (isLeaf (meshOf zs ls ps) (templateOf k)) (place .tuple) (place .at) n lo v
     meet-skips l {r} {q} serve {lo} {v} c ls ps w = record {
       low = λ b. c .low (omega (arith, g .lent .few));
       miss = λ s e a f b.
           let i = serve .0 .has ls ps s w e a in
           let j = serve .1 .has ls ps s w e a in
           let u = getD (entriesOf table r) (i .place) 0 in
-          let fit : fitsWith zs ms place u ≡ true = ap (λ y. fits zs ms y d (set t d u)) (o .row) ∙ passes zs ls ps k s e d (o .inside) (set t d u) (set-agrees t d l s a u (i .is)) (w .marked) in
+          let fit : passesWith zs hs place u ≡ true = ap (λ y. passesLevel zs hs y d (set t d u)) (o .row) ∙ passes zs ls ps k s e d (o .inside) (set t d u) (set-agrees t d l s a u (i .is)) (w .hinted) in
           omega (arith, c .least (i .place) (j .place) (i .before) (j .before) (i .is ∙ sym (j .is)) (omega (arith, f, i .is)) fit, i .is, b);
     }
 
@@ -125,8 +124,8 @@ of-kind {d = d} e h = record { row = ap (λ y. y + d) e; inside = h }
 pub last-of : {k b c : ℕ} {t : List ℕ} → b ≡ base k → c ≡ templateOf k .corners → 0 < c → Last k (record { tuple = t; row = b + (c - 1); at = c - 1 })
 last-of {c = c} e q h = record { row = ap (λ y. y + (c - 1)) e; corners = omega (arith, q) }
 
-module _ {zs : List ℤ} {n : ℕ} {ms table : List ℕ} (g : Sought zs n ms table) (k : ℕ) (mark : List ℕ) where
-  pub begins-here : {d v w : ℕ} → d < templateOf k .corners → v ≡ getD mark d 0 → (w ≡ v → ⊥) → ((ls ps : List ℕ) → Drawn ls n ms table → Skips (isLeaf (meshOf zs ls ps) (templateOf k)) mark d n v w) → Begins zs n ms table k mark d
+module _ {zs : List ℤ} {n : ℕ} {hs table : List ℕ} (g : Sought zs n hs table) (k : ℕ) (mark : List ℕ) where
+  pub begins-here : {d v w : ℕ} → d < templateOf k .corners → v ≡ getD mark d 0 → (w ≡ v → ⊥) → ((ls ps : List ℕ) → Drawn ls n hs table → Skips (isLeaf (meshOf zs ls ps) (templateOf k)) mark d n v w) → Begins zs n hs table k mark d
   begins-here {d} {v} {w} h q z c = record {
     within = h;
     last = λ ls ps drawn. inr (λ s p a.
@@ -138,7 +137,7 @@ module _ {zs : List ℤ} {n : ℕ} {ms table : List ℕ} (g : Sought zs n ms tab
         ]));
   }
 
-  pub begins-last : {d : ℕ} → d + 1 ≡ templateOf k .corners → Begins zs n ms table k mark d
+  pub begins-last : {d : ℕ} → d + 1 ≡ templateOf k .corners → Begins zs n hs table k mark d
   begins-last {d} e = record { within = omega arith; last = λ ls ps w. inl e }
 
   -- what the search is told of the test of a whole tuple

@@ -5,7 +5,7 @@ use mathlib.Core.Bool.{Bool, true, false, cond}
 use native.Mathlib.Omega.{arith}
 use lib.Dec.{eqb}
 use Rattle.templates.specs.Tables.{hexahedron, prism, pyramid, templateOf}
-use Rattle.levels.specs.Levels.{base}
+use Rattle.levels.specs.between.Levels.{base}
 
 -- the rows of a kind
 pub row-in : (k d : ℕ) → d < templateOf k .corners → (base k + d < 19) × (d < 8)

@@ -1,7 +1,7 @@
 // The search for the next cell of a kind: the least tuple after a tuple that is a cell in least form,
 // by an odometer over one tuple with a level.
 // x is the row of a place in the tables of the levels.
-use candidates::Rows;
+use candidates::TwoRows;
 use candidates::meet_rows;
 use candidates::nearer;
 use candidates::partner;
@@ -14,7 +14,7 @@ use levels::also_of;
 use levels::joined_of;
 use levels::third_of;
 use levels::wide;
-use neighbours::row_of;
+use neighbours::neighbour_row;
 use order::corners_of;
 use reaching::fewer;
 use space::Vertex;
@@ -27,16 +27,16 @@ ghost use Prim.Native.Nat.{ℕ, _/_, _<_, _≤_};
 ghost use lib.ListN.{length};
 ghost use Rattle.space.specs.Arrays.{meshOf};
 ghost use Rattle.templates.specs.Tables.{templateOf};
-ghost use Rattle.filling.specs.Found.{Found as Numbered};
-ghost use Rattle.around.specs.Arrays.{Arrays};
-ghost use Rattle.portions.specs.Tuples.{Skips, LeastAfter};
-ghost use Rattle.rule.specs.Rule.{leafIn, leafTets};
-ghost use Rattle.levels.specs.Levels.{base, levels};
-ghost use Rattle.levels.specs.Fits.{Placed};
-ghost use Rattle.search.specs.Ready.{Ready, Sought, Drawn, OfKind, Last, Begins, Tested};
+ghost use Rattle.filling.specs.between.Numbered.{Numbered};
+ghost use Rattle.tets_around.specs.between.Arrays.{Arrays};
+ghost use Rattle.portions.specs.between.Tuples.{Skips, LeastAfter};
+ghost use Rattle.rule.specs.between.Leaf.{leafIn, leafTets};
+ghost use Rattle.levels.specs.between.Levels.{base, levels};
+ghost use Rattle.levels.specs.between.Passing.{Placed};
+ghost use Rattle.search.specs.between.Ready.{Ready, Sought, Drawn, OfKind, Last, Begins, Tested};
 
 // The tuple that was found, in search order, and the tetrahedra of its cell.
-pub struct Found {
+pub struct FoundTuple {
     pub found: bool,
     pub tuple: [u16; 8],
     pub tets: Tets,
@@ -58,15 +58,15 @@ fn seek(
     tables: &[u8],
     coords: &[i64],
     n: usize,
-    marks: &[u8],
+    hints: &[u8],
     table: &[u16],
     place: Place,
     lo: usize,
 ) -> usize
     requires { ⌜ now tables ≡ levels ⌝ }
-    requires { ⌜ Sought (now coords) n (now marks) (now table) ⌝ }
+    requires { ⌜ Sought (now coords) n (now hints) (now table) ⌝ }
     requires { ⌜ Placed place ⌝ }
-    ensures { λ r. ⌜ ((k : ℕ) (ls ps : List ℕ) → OfKind k place → Drawn ls n (now (marks .entry)) (now (table .entry))
+    ensures { λ r. ⌜ ((k : ℕ) (ls ps : List ℕ) → OfKind k place → Drawn ls n (now (hints .entry)) (now (table .entry))
         → Skips (leafIn (now (coords .entry)) ls ps k) (place .tuple) (place .at) n lo r) ⌝ }
 {
     let d = place.at;
@@ -75,17 +75,17 @@ fn seek(
     }
     let x = place.row;
     let from = rise(tables, place, lo);
-    let r = row_of(n, table, Vertex(place.tuple[joined_of(tables, x)]));
-    let q = row_of(n, table, Vertex(place.tuple[also_of(tables, x)]));
-    let s = row_of(n, table, Vertex(place.tuple[third_of(tables, x)]));
+    let r = neighbour_row(n, table, Vertex(place.tuple[joined_of(tables, x)]));
+    let q = neighbour_row(n, table, Vertex(place.tuple[also_of(tables, x)]));
+    let s = neighbour_row(n, table, Vertex(place.tuple[third_of(tables, x)]));
     let f = nearer(tables, x, r, q);
     let one = fewer(f, s);
     if looks_ahead(tables, n, table, place, one.size) {
-        return hunt(tables, coords, n, table, marks, place, from);
+        return hunt(tables, coords, n, table, hints, place, from);
     }
     let two = partner(f, s);
-    let rows = Rows { one, two };
-    meet_rows(tables, coords, marks, table, rows, place, from)
+    let rows = TwoRows { one, two };
+    meet_rows(tables, coords, hints, table, rows, place, from)
 }
 
 // ---- the search
@@ -97,15 +97,15 @@ fn start(
     tables: &[u8],
     coords: &[i64],
     n: usize,
-    marks: &[u8],
+    hints: &[u8],
     table: &[u16],
     last: Place,
     told: bool,
 ) -> usize
     requires { ⌜ now tables ≡ levels ⌝ }
-    requires { ⌜ Sought (now coords) n (now marks) (now table) ⌝ }
+    requires { ⌜ Sought (now coords) n (now hints) (now table) ⌝ }
     requires { ⌜ Placed last × (last .at ≤ last .row) ⌝ }
-    ensures { λ r. ⌜ ((k : ℕ) → Last k last → Begins (now (coords .entry)) n (now (marks .entry)) (now (table .entry)) k (last .tuple) r) ⌝ }
+    ensures { λ r. ⌜ ((k : ℕ) → Last k last → Begins (now (coords .entry)) n (now (hints .entry)) (now (table .entry)) k (last .tuple) r) ⌝ }
 {
     let end = last.at;
     if told {
@@ -121,7 +121,7 @@ fn start(
             row: base + d,
             at: d,
         };
-        if seek(tables, coords, n, marks, table, place, v) != v {
+        if seek(tables, coords, n, hints, table, place, v) != v {
             return d;
         }
         d += 1;
@@ -138,13 +138,13 @@ fn tested(
     entries: &[u16],
     kind: u16,
     t: [u16; 8],
-) -> Found
+) -> FoundTuple
     requires { ⌜ Arrays (now coords) (now labels) (now parts) (length (now coords) / 3) (now offsets) (now entries) ⌝ }
     ensures { λ r. ⌜ Tested (meshOf (now (coords .entry)) (now (labels .entry)) (now (parts .entry))) (templateOf kind) t r ⌝ }
 {
     let v = is_leaf(coords, labels, parts, offsets, entries, kind, t);
     let tets = v.tets;
-    Found {
+    FoundTuple {
         found: v.yes,
         tuple: t,
         tets,
@@ -152,10 +152,10 @@ fn tested(
 }
 
 // No tuple is left; t is the last one tried.
-fn none(t: [u16; 8]) -> Found
+fn none(t: [u16; 8]) -> FoundTuple
     ensures { λ r. ⌜ (r .found ≡ false) × (r .tuple ≡ t) ⌝ }
 {
-    Found {
+    FoundTuple {
         found: false,
         tuple: t,
         tets: no_tets(),
@@ -164,7 +164,7 @@ fn none(t: [u16; 8]) -> Found
 
 // The least tuple of a kind after the mark that is a cell in least form.
 // Entries past the kind's corners keep what the mark has there.
-pub fn next(
+pub fn next_tuple(
     tables: &[u8],
     coords: &[i64],
     labels: &[u16],
@@ -172,14 +172,14 @@ pub fn next(
     n: usize,
     offsets: &[u16],
     entries: &[u16],
-    marks: &[u8],
+    hints: &[u8],
     table: &[u16],
     kind: u16,
     mark: [u16; 8],
     told: bool,
-) -> Found
+) -> FoundTuple
     requires { ⌜ now tables ≡ levels ⌝ }
-    requires { ⌜ Ready (now coords) (now labels) (now parts) n (now offsets) (now entries) (now marks) (now table) ⌝ }
+    requires { ⌜ Ready (now coords) (now labels) (now parts) n (now offsets) (now entries) (now hints) (now table) ⌝ }
     ensures { λ r. ⌜ LeastAfter (templateOf kind .corners)
         (leafIn (now (coords .entry)) (now (labels .entry)) (now (parts .entry)) kind) mark (r .found) (r .tuple) ⌝ }
     ensures { λ r. ⌜ (r .found ≡ true → Numbered (leafTets (now (coords .entry)) (now (labels .entry)) (now (parts .entry)) kind (r .tuple)) (r .tets)) ⌝ }
@@ -192,7 +192,7 @@ pub fn next(
         at: k - 1,
     };
     let mut t = mark;
-    let mut d = start(tables, coords, n, marks, table, last, told);
+    let mut d = start(tables, coords, n, hints, table, last, told);
     let mut lo = wide(t[d]) + 1;
     loop {
         let place = Place {
@@ -200,7 +200,7 @@ pub fn next(
             row: base + d,
             at: d,
         };
-        let c = seek(tables, coords, n, marks, table, place, lo);
+        let c = seek(tables, coords, n, hints, table, place, lo);
         if c < n {
             t[d] = c as u16;
             if d + 1 < k {

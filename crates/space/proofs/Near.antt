@@ -10,9 +10,10 @@ use mir.Syntax.{w64}
 use mir.Val.{SFits, toZ, ofZ}
 use mir.ValLaws.{toZ-ofZ}
 use Rattle.space.specs.declared.Point.{Point}
-use Rattle.base.specs.Size.{Small}
+use Rattle.base.specs.between.Size.{Small}
 use Rattle.base.proofs.Bools.{and-left, and-right}
-use Rattle.space.specs.Box.{near, nearPoint, from, det, box, isAbove0, Sized}
+use Rattle.space.specs.Box.{near, nearPoint, fromTo, det, box, isAbove0}
+use Rattle.space.specs.between.Working.{Sized}
 use Rattle.base.proofs.Signed.{add-small, sub-small, mul-small}
 
 -- a test of what is read back from the bits of z is a test of z
@@ -32,7 +33,7 @@ near-sized p e =
       z = near-small (p .z) (and-right (near (p .x) && near (p .y)) (near (p .z)) e);
     }
 
-pub from-sized : (p q : Point) → Sized 50000 p → Sized 50000 q → Sized 100000 (from p q)
+pub from-sized : (p q : Point) → Sized 50000 p → Sized 50000 q → Sized 100000 (fromTo p q)
 from-sized p q s t = record { x = sub-small (t .x) (s .x); y = sub-small (t .y) (s .y); z = sub-small (t .z) (s .z) }
 
 -- 6 * 10 ^ 15 bounds the determinant of entries up to 10 ^ 5
@@ -48,7 +49,7 @@ det-small a b c p q r =
 pub box-small : (p q r s : Point) → Sized 50000 p → Sized 50000 q → Sized 50000 r → Sized 50000 s → Small 6000000000000000 (box p q r s)
 unfolding box
 box-small p q r s a b c d =
-    det-small (from p q) (from p r) (from p s) (from-sized p q a b) (from-sized p r a c) (from-sized p s a d)
+    det-small (fromTo p q) (fromTo p r) (fromTo p s) (from-sized p q a b) (from-sized p r a c) (from-sized p s a d)
 
 -- the code's test of a box
 pub above-is : (z : ℤ) → ltZ (pos 0) z ≡ isAbove0 z

@@ -4,8 +4,7 @@ use Prim.Native.Nat.{ℕ, _+_, _*_, _/_}
 use mathlib.Core.List.{List, [], _∷_, map}
 use lib.IntN.{ℤ, pos}
 use lib.ListN.{length, getD}
-use Rattle.base.specs.Lists.{keep, upTo, isIn}
-use Rattle.base.specs.Size.{Small}
+use Rattle.base.specs.Lists.{upTo}
 use Rattle.space.specs.declared.Point.{Point}
 use Rattle.space.specs.Mesh.{Mesh, Tetrahedron}
 
@@ -24,11 +23,3 @@ tetAt ls ps i = record { vertices = row4 ls i; part = getD ps i 0 }
 abbrev pub meshOf : List ℤ → List ℕ → List ℕ → Mesh
 meshOf zs ls ps =
     record { points = map (pointAt zs) (upTo (length zs / 3)); tets = map (tetAt ls ps) (upTo (length ls / 4)) }
-
--- the numbers of the tetrahedra around a vertex, rising
-unfoldable pub around : List ℕ → ℕ → List ℕ
-around ls u = keep (λ i. isIn u (row4 ls i)) (upTo (length ls / 4))
-
--- every number of the list is a coordinate in bounds
-pub record Close (zs : List ℤ) : Type 0 where
-  pub close : (i : ℕ) → Small 50000 (getD zs i (pos 0))

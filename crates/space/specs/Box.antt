@@ -3,7 +3,6 @@ use Prim.Native.Nat.{ℕ, zero, suc}
 use mathlib.Core.Bool.{Bool, true, false, cond, _&&_}
 use lib.Dec.{leb}
 use lib.IntN.{ℤ, pos, negsuc, natAbs, _+ℤ_, _-ℤ_, _*ℤ_}
-use Rattle.base.specs.Size.{Small}
 use Rattle.space.specs.declared.Point.{Point}
 use Rattle.space.specs.declared.Boxed.{Boxed}
 use Rattle.space.specs.declared.Boxed.the-variants.{Value, Refused}
@@ -16,8 +15,8 @@ unfoldable pub nearPoint : Point → Bool
 nearPoint p = near (p .x) && near (p .y) && near (p .z)
 
 -- q - p
-abbrev pub from : Point → Point → Point
-from p q = record { x = q .x -ℤ p .x; y = q .y -ℤ p .y; z = q .z -ℤ p .z }
+abbrev pub fromTo : Point → Point → Point
+fromTo p q = record { x = q .x -ℤ p .x; y = q .y -ℤ p .y; z = q .z -ℤ p .z }
 
 -- the determinant of the rows a, b, c, by cofactors of the first
 abbrev pub det : Point → Point → Point → ℤ
@@ -28,7 +27,7 @@ det a b c =
 
 -- box(p; q, r, s)
 unfoldable pub box : Point → Point → Point → Point → ℤ
-box p q r s = det (from p q) (from p r) (from p s)
+box p q r s = det (fromTo p q) (fromTo p r) (fromTo p s)
 
 abbrev pub isAbove0 : ℤ → Bool
 isAbove0 (pos zero) = false
@@ -44,9 +43,3 @@ boxed p q r s =
 abbrev pub boxNumber : Boxed → ℕ
 boxNumber (Value b) = 0
 boxNumber Refused = 4
-
--- each coordinate is at most n in size
-pub record Sized (n : ℕ) (p : Point) : Type 0 where
-  pub x : Small n (p .x)
-  pub y : Small n (p .y)
-  pub z : Small n (p .z)

@@ -1,4 +1,4 @@
 pub mod Box
 pub mod Mesh
 pub mod Arrays
-pub mod Spread
+pub mod between

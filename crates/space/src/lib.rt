@@ -2,14 +2,16 @@
 ghost use mathlib.Core.Path.{_≡_};
 ghost use mathlib.Core.List.{[], _∷_};
 ghost use Prim.Native.Nat.{_+_, _*_, _/_, _<_, _≤_};
-ghost use lib.ListN.{length, getD};
+ghost use lib.ListN.{length};
 ghost use lib.IntN.{_+ℤ_, _-ℤ_, _*ℤ_};
 ghost use Rattle.base.specs.Lists.{all, isIn};
-ghost use Rattle.base.specs.Size.{Small};
-ghost use Rattle.space.specs.Box.{near, nearPoint, from, det, box, boxed, Sized};
+ghost use Rattle.base.specs.between.Size.{Small};
+ghost use Rattle.space.specs.Box.{near, nearPoint, fromTo, det, box, boxed};
+ghost use Rattle.space.specs.between.Working.{Sized};
 ghost use Rattle.space.specs.Mesh.{point};
-ghost use Rattle.space.specs.Spread.{odd, spread};
-ghost use Rattle.space.specs.Arrays.{row4, meshOf, Close};
+ghost use Rattle.space.specs.between.Hash.{odd, hash3};
+ghost use Rattle.space.specs.Arrays.{row4, meshOf};
+ghost use Rattle.space.specs.between.Working.{Close};
 
 // The number of a vertex, and the number of a tetrahedron.
 pub struct Vertex(pub u16);
@@ -74,7 +76,7 @@ fn expand(x: i64, y: i64, z: i64, i: i64, j: i64, k: i64) -> i64
 // q - p.
 fn from_to(p: Point, q: Point) -> Point
     requires { ⌜ Sized 50000 p × Sized 50000 q ⌝ }
-    ensures { λ r. ⌜ r ≡ from p q ⌝ }
+    ensures { λ r. ⌜ r ≡ fromTo p q ⌝ }
 {
     Point {
         x: diff(p.x, q.x),
@@ -187,8 +189,8 @@ fn times(x: usize, y: usize) -> usize
 
 // Three vertices as one number, whatever their order. Other three rarely have the same one at the last bits,
 // so it tells a place in a table.
-pub fn spread(u: Vertex, v: Vertex, w: Vertex) -> usize
-    ensures { λ r. ⌜ r ≡ spread (u .0) (v .0) (w .0) ⌝ }
+pub fn hash3(u: Vertex, v: Vertex, w: Vertex) -> usize
+    ensures { λ r. ⌜ r ≡ hash3 (u .0) (v .0) (w .0) ⌝ }
 {
     let x = odd(u);
     let y = odd(v);

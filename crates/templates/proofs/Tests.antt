@@ -1,13 +1,13 @@
 -- Laws of tests over lists: a test over a list that another covers, the corners of a turned tuple, distinct numbers.
 -- Assumes nothing.
-use Prim.Native.Nat.{ℕ, zero, suc, _<_, _≤_, _+_}
+use Prim.Native.Nat.{ℕ, zero, suc, _<_}
 use mathlib.Core.Path.{_≡_, refl, sym, _∙_, ap, ap₂}
 use mathlib.Core.Bool.{Bool, true, false, not, _&&_, _||_, false≢true}
 use mathlib.Core.List.{List, [], _∷_, map, List·Memᴰ, List·Memᴰ·head, List·Memᴰ·tail}
 use lib.Dec.{eqb, ltb}
 use lib.ListN.{length, getD}
 use native.Mathlib.Omega.{arith}
-use borrow.Author.Tests.{ltb-true, eqb-true, eq-eqb, eqb-false}
+use borrow.Author.Tests.{ltb-true, eqb-true, eq-eqb}
 use Rattle.base.specs.Lists.{all, any, every, from, upTo, isIn, distinct, equal}
 use Rattle.templates.specs.Tables.{at}
 use Rattle.base.proofs.Bools.{or-either}

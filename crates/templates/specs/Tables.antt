@@ -33,12 +33,12 @@ h = 7
 
 -- a place of the search order, by number: the earlier places whose vertex must be less,
 -- and those that an edge joins it to
-pub record Place : Type 0 where
+pub record Placing : Type 0 where
   pub below : List ℕ
   pub joined : List ℕ
 
-abbrev pub place : List ℕ → List ℕ → Place
-place less join = record { below = less; joined = join }
+abbrev pub placing : List ℕ → List ℕ → Placing
+placing less join = record { below = less; joined = join }
 
 pub record Template : Type 0 where
   pub kind : ℕ
@@ -51,7 +51,7 @@ pub record Template : Type 0 where
   -- the corners in search order, and the place of each corner in it
   pub order : List ℕ
   pub places : List ℕ
-  pub search : List Place
+  pub search : List Placing
   -- least form: of each pair of corners the first is less
   pub less : List (List ℕ)
   -- of each rotation, the corners that come to stand at a, b, ..
@@ -70,14 +70,14 @@ hexahedron = record {
   order = a ∷ b ∷ d ∷ e ∷ c ∷ f ∷ h ∷ g ∷ [];
   places = 0 ∷ 1 ∷ 4 ∷ 2 ∷ 3 ∷ 5 ∷ 7 ∷ 6 ∷ [];
   search =
-      place [] [] ∷
-      place (0 ∷ []) (0 ∷ []) ∷
-      place (0 ∷ 1 ∷ []) (0 ∷ []) ∷
-      place (0 ∷ 1 ∷ []) (0 ∷ []) ∷
-      place (0 ∷ []) (1 ∷ 2 ∷ []) ∷
-      place (0 ∷ []) (1 ∷ 3 ∷ []) ∷
-      place (0 ∷ []) (2 ∷ 3 ∷ []) ∷
-      place (0 ∷ []) (4 ∷ 5 ∷ 6 ∷ []) ∷
+      placing [] [] ∷
+      placing (0 ∷ []) (0 ∷ []) ∷
+      placing (0 ∷ 1 ∷ []) (0 ∷ []) ∷
+      placing (0 ∷ 1 ∷ []) (0 ∷ []) ∷
+      placing (0 ∷ []) (1 ∷ 2 ∷ []) ∷
+      placing (0 ∷ []) (1 ∷ 3 ∷ []) ∷
+      placing (0 ∷ []) (2 ∷ 3 ∷ []) ∷
+      placing (0 ∷ []) (4 ∷ 5 ∷ 6 ∷ []) ∷
       [];
   less = (a ∷ b ∷ []) ∷ (a ∷ d ∷ []) ∷ (b ∷ d ∷ []) ∷ (a ∷ e ∷ []) ∷ (b ∷ e ∷ []) ∷ (a ∷ c ∷ []) ∷ (a ∷ f ∷ []) ∷ (a ∷ h ∷ []) ∷ (a ∷ g ∷ []) ∷ [];
   turns =
@@ -120,12 +120,12 @@ prism = record {
   order = a ∷ b ∷ c ∷ d ∷ e ∷ f ∷ [];
   places = 0 ∷ 1 ∷ 2 ∷ 3 ∷ 4 ∷ 5 ∷ [];
   search =
-      place [] [] ∷
-      place (0 ∷ []) (0 ∷ []) ∷
-      place (0 ∷ []) (0 ∷ 1 ∷ []) ∷
-      place (0 ∷ []) (0 ∷ []) ∷
-      place (0 ∷ []) (1 ∷ 3 ∷ []) ∷
-      place (0 ∷ []) (2 ∷ 3 ∷ 4 ∷ []) ∷
+      placing [] [] ∷
+      placing (0 ∷ []) (0 ∷ []) ∷
+      placing (0 ∷ []) (0 ∷ 1 ∷ []) ∷
+      placing (0 ∷ []) (0 ∷ []) ∷
+      placing (0 ∷ []) (1 ∷ 3 ∷ []) ∷
+      placing (0 ∷ []) (2 ∷ 3 ∷ 4 ∷ []) ∷
       [];
   less = (a ∷ b ∷ []) ∷ (a ∷ c ∷ []) ∷ (a ∷ d ∷ []) ∷ (a ∷ e ∷ []) ∷ (a ∷ f ∷ []) ∷ [];
   turns =
@@ -150,11 +150,11 @@ pyramid = record {
   order = a ∷ b ∷ c ∷ d ∷ e ∷ [];
   places = 0 ∷ 1 ∷ 2 ∷ 3 ∷ 4 ∷ [];
   search =
-      place [] [] ∷
-      place (0 ∷ []) (0 ∷ []) ∷
-      place (0 ∷ []) (1 ∷ []) ∷
-      place (0 ∷ []) (0 ∷ 2 ∷ []) ∷
-      place [] (0 ∷ 1 ∷ 2 ∷ 3 ∷ []) ∷
+      placing [] [] ∷
+      placing (0 ∷ []) (0 ∷ []) ∷
+      placing (0 ∷ []) (1 ∷ []) ∷
+      placing (0 ∷ []) (0 ∷ 2 ∷ []) ∷
+      placing [] (0 ∷ 1 ∷ 2 ∷ 3 ∷ []) ∷
       [];
   less = (a ∷ b ∷ []) ∷ (a ∷ c ∷ []) ∷ (a ∷ d ∷ []) ∷ [];
   turns =
@@ -183,8 +183,3 @@ tupleOf k vs = take (templateOf k .corners) vs
 -- the vertices of a tuple at these corners
 abbrev pub at : List ℕ → List ℕ → List ℕ
 at tuple ks = map (λ k. getD tuple k 0) ks
-
--- eight numbers, 0 where the tuple has none
-abbrev pub eight : List ℕ → List ℕ
-eight xs =
-    getD xs 0 0 ∷ getD xs 1 0 ∷ getD xs 2 0 ∷ getD xs 3 0 ∷ getD xs 4 0 ∷ getD xs 5 0 ∷ getD xs 6 0 ∷ getD xs 7 0 ∷ []

@@ -2,7 +2,8 @@
 ghost use mathlib.Core.Path.{_≡_};
 ghost use lib.ListN.{getD};
 ghost use Rattle.base.specs.Lists.{isIn, distinct};
-ghost use Rattle.templates.specs.Tables.{at, eight};
+ghost use Rattle.templates.specs.Tables.{at};
+ghost use Rattle.templates.specs.between.Eight.{eight};
 
 mod tables;
 

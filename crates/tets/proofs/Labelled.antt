@@ -10,8 +10,8 @@ use lib.ListN.{length, getD}
 use borrow.Author.Tests.{leb-false, not-false}
 use Rattle.base.specs.Lists.{any, from, upTo, distinct}
 use Rattle.space.specs.Arrays.{row4}
-use Rattle.around.specs.Index.{Labelled}
-use Rattle.around.proofs.Rows.{or-left, or-right}
+use Rattle.tets_around.specs.between.Index.{Labelled}
+use Rattle.tets_around.proofs.Rows.{or-left, or-right}
 use Rattle.tets.specs.Tets.{outside, twice, anyOutside, anyTwice}
 
 -- ---- a test that fails at all fails at each

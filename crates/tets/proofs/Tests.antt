@@ -12,7 +12,7 @@ use Rattle.base.specs.Lists.{any, upTo}
 use Rattle.base.proofs.Bools.{or-false, or-found, or-passes}
 use Rattle.space.specs.Box.{isAbove0}
 use Rattle.space.specs.Arrays.{row4}
-use Rattle.around.proofs.Around.{any-map}
+use Rattle.tets_around.proofs.Around.{any-map}
 
 pub any-up : (q : ℕ → Bool) (t : ℕ) → any q (map (λ i. i) (upTo t)) ≡ any q (upTo t)
 any-up q t = any-map (λ i. i) q (upTo t)

@@ -1,5 +1,6 @@
 -- What is asked of each tetrahedron of a mesh in working arrays: refusals 5, 6 and 7.
--- zs are the coordinates, three a vertex; ls the labels, four a tetrahedron; e is the number of a tetrahedron, a, b, c, d numbers of vertices.
+-- zs are the coordinates, three a vertex; ls the labels, four a tetrahedron;
+-- e is the number of a tetrahedron, a, b, c, d numbers of vertices.
 -- Assumes nothing.
 use Prim.Native.Nat.{ℕ, _+_, _*_, _/_}
 use mathlib.Core.Bool.{Bool, not}
@@ -16,8 +17,8 @@ use Rattle.space.specs.Arrays.{row4, meshOf}
 abbrev pub someTet : List ℕ → (ℕ → Bool) → Bool
 someTet ls q = any q (upTo (length ls / 4))
 
-unfoldable pub boxAt : List ℤ → ℕ → ℕ → ℕ → ℕ → ℤ
-boxAt zs a b c d =
+unfoldable pub boxIn : List ℤ → ℕ → ℕ → ℕ → ℕ → ℤ
+boxIn zs a b c d =
     let p = point (meshOf zs [] []) in
     box (p a) (p b) (p c) (p d)
 
@@ -31,7 +32,7 @@ twice ls e = not (distinct (row4 ls e))
 
 unfoldable pub flat : List ℤ → List ℕ → ℕ → Bool
 flat zs ls e =
-    not (isAbove0 (boxAt zs (getD ls (4 * e) 0) (getD ls (4 * e + 1) 0) (getD ls (4 * e + 2) 0) (getD ls (4 * e + 3) 0)))
+    not (isAbove0 (boxIn zs (getD ls (4 * e) 0) (getD ls (4 * e + 1) 0) (getD ls (4 * e + 2) 0) (getD ls (4 * e + 3) 0)))
 
 -- ---- the refusals
 

@@ -10,8 +10,9 @@ ghost use Prim.Native.Nat.{_/_, _≤_, _<_};
 ghost use lib.Dec.{leb};
 ghost use lib.ListN.{length};
 ghost use Rattle.base.specs.Lists.{distinct};
-ghost use Rattle.space.specs.Arrays.{Close, row4};
-ghost use Rattle.tets.specs.Tets.{boxAt, outside, twice, flat, anyOutside, anyTwice, anyFlat};
+ghost use Rattle.space.specs.Arrays.{row4};
+ghost use Rattle.space.specs.between.Working.{Close};
+ghost use Rattle.tets.specs.Tets.{boxIn, outside, twice, flat, anyOutside, anyTwice, anyFlat};
 
 // The four vertices of a tetrahedron.
 pub fn corners(labels: &[u16], e: Tet) -> [u16; 4]
@@ -85,9 +86,9 @@ fn names_twice(labels: &[u16], e: Tet) -> bool
 // ---- 7
 
 // box(a; b, c, d) of four vertices.
-pub fn box_at(coords: &[i64], a: Vertex, b: Vertex, c: Vertex, d: Vertex) -> i64
+pub fn box_in(coords: &[i64], a: Vertex, b: Vertex, c: Vertex, d: Vertex) -> i64
     requires { ⌜ Close (now coords) ⌝ }
-    ensures { λ r. ⌜ r ≡ boxAt (now (coords .entry)) (a .0) (b .0) (c .0) (d .0) ⌝ }
+    ensures { λ r. ⌜ r ≡ boxIn (now (coords .entry)) (a .0) (b .0) (c .0) (d .0) ⌝ }
 {
     volume(
         point_at(coords, a),
@@ -103,7 +104,7 @@ fn is_flat(coords: &[i64], labels: &[u16], e: Tet) -> bool
     ensures { λ r. ⌜ r ≡ flat (now (coords .entry)) (now (labels .entry)) (e .0) ⌝ }
 {
     let c = corners(labels, e);
-    box_at(
+    box_in(
         coords,
         Vertex(c[0]),
         Vertex(c[1]),

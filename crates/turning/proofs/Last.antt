@@ -8,9 +8,10 @@ use native.Mathlib.Omega.{arith}
 use lib.ListN.{length, getD, take, drop, length-map, length-take, List·getD-eq-default}
 use Rattle.base.specs.Lists.{all, keep, upTo, lastOr}
 use Rattle.base.proofs.Loop.{rest, rest-start, rest-next, rest-end}
-use Rattle.templates.specs.Tables.{at, eight}
-use Rattle.templates.specs.Flat.{rowOf, rowsOf}
-use Rattle.least.specs.Least.{rises, risesAt}
+use Rattle.templates.specs.Tables.{at}
+use Rattle.templates.specs.between.Eight.{eight}
+use Rattle.templates.specs.between.Flat.{tableRow, tableRows}
+use Rattle.least.specs.Least.{firstIsLess, risesAt}
 use Rattle.turning.specs.Form.{leastBy}
 
 -- ---- the last of f 0, f 1, .. at which the test passes
@@ -53,7 +54,7 @@ row-ends k {n} {l} {i} h j =
     omega (arith, mul-le-mul-left {m = suc i} {n = n} k (omega arith), mul-suc k i)
 
 -- `&turns[k * i..k * i + k]`
-pub row-part : (k i : ℕ) (turns : List ℕ) → take (k * i + k - k * i) (drop (k * i) turns) ≡ rowOf k turns i
+pub row-part : (k i : ℕ) (turns : List ℕ) → take (k * i + k - k * i) (drop (k * i) turns) ≡ tableRow k turns i
 row-part k i turns = let e : k * i + k - k * i ≡ k = omega arith in ap (λ j. take j (drop (k * i) turns)) e
 
 -- ---- eight places
@@ -72,7 +73,7 @@ eight-at xs h (suc (suc (suc (suc (suc (suc (suc (suc j)))))))) =
 
 eight-rises : (ps : List (List ℕ)) (xs : List ℕ) → length xs ≤ 8 → risesAt ps (eight xs) ≡ risesAt ps xs
 unfolding risesAt
-eight-rises ps xs h = ap (λ f. all (λ p. rises (map f p)) ps) (fun-ext (eight-at xs h))
+eight-rises ps xs h = ap (λ f. all (λ p. firstIsLess (map f p)) ps) (fun-ext (eight-at xs h))
 
 map-map : {A B C : Type 0} (g : B → C) (f : A → B) (xs : List A) → map g (map f xs) ≡ map (λ x. g (f x)) xs
 map-map g f [] = refl
@@ -93,8 +94,8 @@ module _ (ps : List (List ℕ)) (g : ℕ → List ℕ) (h : (i : ℕ) → length
       go true = refl
       go false = refl
 
-pub least-eight : (c : List ℕ) (k n : ℕ) (turns : List ℕ) (ps : List (List ℕ)) → k ≤ 8 → lastOr (eight []) (keep (risesAt ps) (map (λ i. eight (at c (rowOf k turns i))) (upTo n))) ≡ eight (leastBy (rowsOf k n turns) ps c)
+pub least-eight : (c : List ℕ) (k n : ℕ) (turns : List ℕ) (ps : List (List ℕ)) → k ≤ 8 → lastOr (eight []) (keep (risesAt ps) (map (λ i. eight (at c (tableRow k turns i))) (upTo n))) ≡ eight (leastBy (tableRows k n turns) ps c)
 unfolding leastBy
 least-eight c k n turns ps h =
-    last-eight ps (λ i. at c (rowOf k turns i)) (λ i. omega (arith, length-map (rowOf k turns i) (λ v. getD c v 0), length-take k (drop (k * i) turns))) [] (upTo n)
-    ∙ ap (λ l. eight (lastOr [] (keep (risesAt ps) l))) (sym (map-map (at c) (rowOf k turns) (upTo n)))
+    last-eight ps (λ i. at c (tableRow k turns i)) (λ i. omega (arith, length-map (tableRow k turns i) (λ v. getD c v 0), length-take k (drop (k * i) turns))) [] (upTo n)
+    ∙ ap (λ l. eight (lastOr [] (keep (risesAt ps) l))) (sym (map-map (at c) (tableRow k turns) (upTo n)))

@@ -4,9 +4,8 @@ use Prim.Native.Nat.{ℕ}
 use mathlib.Core.Bool.{cond}
 use mathlib.Core.List.{List, [], map}
 use lib.ListN.{getD, take}
-use Rattle.base.specs.Lists.{keep, upTo, distinct, lastOr}
-use Rattle.templates.specs.Tables.{templateOf, isKind, at, eight}
-use Rattle.templates.specs.Flat.{rowOf}
+use Rattle.base.specs.Lists.{keep, distinct, lastOr}
+use Rattle.templates.specs.Tables.{templateOf, isKind, at}
 use Rattle.least.specs.Least.{risesAt}
 use Rattle.turning.specs.declared.Least.{Least}
 use Rattle.turning.specs.declared.Least.the-variants.{Form, Refused}
@@ -14,10 +13,6 @@ use Rattle.turning.specs.declared.Least.the-variants.{Form, Refused}
 -- the turn of c, by one of these rows, that rises at these pairs
 unfoldable pub leastBy : List (List ℕ) → List (List ℕ) → List ℕ → List ℕ
 leastBy rows ps c = lastOr [] (keep (risesAt ps) (map (at c) rows))
-
--- the n turns of c by a table of k corners a row, each in eight places
-abbrev pub turnsBy : ℕ → ℕ → List ℕ → List ℕ → List (List ℕ)
-turnsBy k n turns c = map (λ i. eight (at c (rowOf k turns i))) (upTo n)
 
 abbrev pub formOf : List ℕ → Least
 formOf xs =

@@ -16,10 +16,12 @@ ghost use mathlib.Core.List.{[]};
 ghost use Prim.Native.Nat.{_*_, _≤_};
 ghost use lib.ListN.{length};
 ghost use Rattle.base.specs.Lists.{keep, lastOr};
-ghost use Rattle.templates.specs.Tables.{hexahedron, prism, pyramid, eight};
-ghost use Rattle.templates.specs.Flat.{rowsOf, pairs};
+ghost use Rattle.templates.specs.Tables.{hexahedron, prism, pyramid};
+ghost use Rattle.templates.specs.between.Eight.{eight};
+ghost use Rattle.templates.specs.between.Flat.{tableRows, pairs};
 ghost use Rattle.least.specs.Least.{risesAt};
-ghost use Rattle.turning.specs.Form.{turnsBy, formOf, formBy, leastForm};
+ghost use Rattle.turning.specs.Form.{formOf, formBy, leastForm};
+ghost use Rattle.turning.specs.between.Turns.{turnsBy};
 
 // What is answered for a least form: its eight numbers, 0 where the kind has no corner, or refusal 13.
 pub enum Least {
@@ -60,7 +62,7 @@ fn form(x: [u16; 8]) -> Least
 
 fn least_by(c: &[u16], k: usize, n: usize, turns: &[u8], less: &[u8]) -> Least
     requires { ⌜ (k * n ≤ length (now turns)) × (k ≤ 8) ⌝ }
-    ensures { λ r. ⌜ r ≡ formBy (rowsOf k n (now (turns .entry))) (pairs (now (less .entry))) (now (c .entry)) ⌝ }
+    ensures { λ r. ⌜ r ≡ formBy (tableRows k n (now (turns .entry))) (pairs (now (less .entry))) (now (c .entry)) ⌝ }
 {
     if !all_distinct(c) {
         return Least::Refused;

@@ -9,12 +9,12 @@ use lib.Dec.{eqb}
 use lib.ListN.{take, drop}
 use Rattle.base.specs.Lists.{keep, spread}
 use Rattle.templates.specs.Tables.{Template, hexahedron, prism, pyramid, templateOf}
-use Rattle.templates.specs.Flat.{pairs}
-use Rattle.cells.specs.Cells.{first, second, inside, corner3}
-use Rattle.counting.specs.Noted.{low, Lettered}
+use Rattle.templates.specs.between.Flat.{pairs}
+use Rattle.cells.specs.Cells.{oneDiagonal, otherDiagonal, inside, corner3}
+use Rattle.counting.specs.between.Bits.{low, Lettered}
 use Rattle.verdict.specs.declared.rows.Bounds.{Bounds}
-use Rattle.verdict.specs.Judged.{TablesOf}
-use Rattle.verdict.specs.Laid.{laid, rows, standing, hexahedronAt, prismAt, pyramidAt, boundsOf, Rising}
+use Rattle.verdict.specs.between.Judged.{TablesOf}
+use Rattle.verdict.specs.between.FlatTables.{flatTables, allRows, standing, hexahedronAt, prismAt, pyramidAt, boundsOf, BoundsRise}
 use Rattle.verdict.proofs.Solid.{edged}
 
 -- the numbers from place i up to place j
@@ -23,13 +23,13 @@ cut xs i j = take (j - i) (drop i xs)
 
 -- between the bounds stand the template's tables, they name no corner past h, and every edge is a side of a face
 pub record Kind (xs : List ℕ) (b : Bounds) (t : Template) : Type 0 where
-  pub rising : Rising b
+  pub rising : BoundsRise b
   pub tables : TablesOf t (b .corners) (cut xs (b .triangles) (b .quads)) (cut xs (b .quads) (b .triples)) (cut xs (b .triples) (b .within)) (cut xs (b .within) (b .end))
   pub edges : pairs (cut xs (b .edges) (b .triangles)) ≡ t .edges
   pub lettered : Lettered (cut xs (b .triangles) (b .quads)) (cut xs (b .quads) (b .triples)) (cut xs (b .within) (b .end))
   pub edged : edged t ≡ true
 
-rises : (n : ℕ) (t : Template) → t .corners ≤ 8 → standing n t .end ≤ 308 → Rising (standing n t)
+rises : (n : ℕ) (t : Template) → t .corners ≤ 8 → standing n t .end ≤ 308 → BoundsRise (standing n t)
 unfolding standing
 rises n t c e = record {
   corners = c;
@@ -41,8 +41,8 @@ rises n t c e = record {
   end = e;
 }
 
-by-kind : (x y : Bool) → Kind rows (cond x hexahedronAt (cond y prismAt pyramidAt)) (cond x hexahedron (cond y prism pyramid))
-unfolding laid rows standing inside corner3 keep spread low first second
+by-kind : (x y : Bool) → Kind allRows (cond x hexahedronAt (cond y prismAt pyramidAt)) (cond x hexahedron (cond y prism pyramid))
+unfolding flatTables allRows standing inside corner3 keep spread low oneDiagonal otherDiagonal
 by-kind true y = record {
   rising = rises _ hexahedron (leb-true _ _ refl) (leb-true _ _ refl);
   tables = record { corners = refl; triangles = refl; quads = refl; triples = refl; within = refl };
@@ -65,9 +65,9 @@ by-kind false false = record {
   edged = refl;
 }
 
-pub of-kind : (k : ℕ) {xs : List ℕ} {b : Bounds} → xs ≡ rows → b ≡ boundsOf k → Kind xs b (templateOf k)
+pub of-kind : (k : ℕ) {xs : List ℕ} {b : Bounds} → xs ≡ allRows → b ≡ boundsOf k → Kind xs b (templateOf k)
 unfolding boundsOf
 of-kind k e f = rw (e, f) (by-kind (eqb k 8) (eqb k 6))
 
-pub bounded : (k : ℕ) {b : Bounds} → b ≡ boundsOf k → (b ≡ boundsOf k) × Rising b
+pub bounded : (k : ℕ) {b : Bounds} → b ≡ boundsOf k → (b ≡ boundsOf k) × BoundsRise b
 bounded k f = (f, of-kind k refl f .rising)

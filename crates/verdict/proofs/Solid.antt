@@ -13,12 +13,12 @@ use Rattle.base.proofs.Bools.{or-either, and-left, and-right}
 use Rattle.base.proofs.Lists.{all-at, any-at}
 use Rattle.base.proofs.Members.{all-map}
 use Rattle.space.specs.Mesh.{Mesh, Tetrahedron, holds, together}
-use Rattle.around.proofs.Around.{count-keep}
+use Rattle.tets_around.proofs.Around.{count-keep}
 use Rattle.templates.specs.Tables.{Template, at}
-use Rattle.cells.specs.Cells.{first, second, inside, one, once, paired, covers, fills, splits, allFaces, isTuple, hasEdges, isFacet, isSplit, hasFaces, isSound, belongs, tetsOf, sides, isFilledBy, isFilled, isOnePart, isCell}
+use Rattle.cells.specs.Cells.{oneDiagonal, otherDiagonal, inside, one, once, paired, covers, fills, splits, allFaces, isTuple, hasEdges, isFacet, isSplit, hasFaces, isSound, belongs, tetsOf, sides, isFilledBy, isFilled, isOnePart, isCell}
 use Rattle.verdict.specs.declared.Verdict.{Verdict}
-use Rattle.verdict.specs.Judged.{isSolid, Tells}
-use Rattle.judging.specs.Last.{lastOf}
+use Rattle.verdict.specs.between.Judged.{isSolid, Tells}
+use Rattle.judging.specs.between.Last.{lastOf}
 
 or-left : (a b : Bool) → a ≡ true → (a || b) ≡ true
 or-left a b e = rw e
@@ -55,11 +55,11 @@ module _ {A : Type 0} (p q : A → Bool) (f : (x : A) → p x ≡ true → q x �
 module _ (g : List ℕ → ℕ) (f : List ℕ → Bool) (so : (ks : List ℕ) → once g ks ≡ true → f ks ≡ true) where
   covers-splits : (q : List ℕ) → covers g q ≡ true → splits f q ≡ true
   covers-splits q e =
-      let a = all (once g) (first q) in
-      let b = all (once g) (second q) in
-      or-either (a && all (paired g) (second q)) (b && all (paired g) (first q)) e
-      (λ h. or-left (all f (first q)) _ (all-so (once g) f so (first q) (and-left a _ h)))
-      (λ h. or-right (all f (first q)) _ (all-so (once g) f so (second q) (and-left b _ h)))
+      let a = all (once g) (oneDiagonal q) in
+      let b = all (once g) (otherDiagonal q) in
+      or-either (a && all (paired g) (otherDiagonal q)) (b && all (paired g) (oneDiagonal q)) e
+      (λ h. or-left (all f (oneDiagonal q)) _ (all-so (once g) f so (oneDiagonal q) (and-left a _ h)))
+      (λ h. or-right (all f (oneDiagonal q)) _ (all-so (once g) f so (otherDiagonal q) (and-left b _ h)))
 
   fills-faces : (ts qs ws : List (List ℕ)) → fills g ts qs ws ≡ true → allFaces f ts qs ≡ true
   fills-faces ts qs ws e =
@@ -87,7 +87,7 @@ among ks f = all (λ k. isIn k f) ks
 
 -- a side of a triangle of either diagonal
 abbrev pub isSide : List ℕ → List ℕ → Bool
-isSide e q = any (among e) (first q) && any (among e) (second q)
+isSide e q = any (among e) (oneDiagonal q) && any (among e) (otherDiagonal q)
 
 abbrev pub onFace : Template → List ℕ → Bool
 onFace t e = any (among e) (t .triangles) || any (isSide e) (t .quads)
@@ -115,9 +115,9 @@ module _ (m : Mesh) (t : Template) (c : List ℕ) where
   side-joined : (e q : List ℕ) → isSide e q ≡ true → isSplit m t c q ≡ true → together m (at c e) ≡ true
   unfolding isSplit
   side-joined e q s h =
-      let a = any (among e) (first q) in
-      let b = any (among e) (second q) in
-      or-either (all (isFacet m t c) (first q)) _ h (some-joined e (first q) (and-left a b s)) (some-joined e (second q) (and-right a b s))
+      let a = any (among e) (oneDiagonal q) in
+      let b = any (among e) (otherDiagonal q) in
+      or-either (all (isFacet m t c) (oneDiagonal q)) _ h (some-joined e (oneDiagonal q) (and-left a b s)) (some-joined e (otherDiagonal q) (and-right a b s))
 
   faces-edges : edged t ≡ true → hasFaces m t c ≡ true → hasEdges m t c ≡ true
   unfolding hasEdges hasFaces isSplit

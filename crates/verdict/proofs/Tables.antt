@@ -7,11 +7,11 @@ use lib.ListN.{length}
 use Rattle.space.specs.Arrays.{meshOf}
 use Rattle.templates.specs.Tables.{Template}
 use Rattle.cells.specs.Cells.{areCorners, allJoined, allFaces, boxesAbove, boxOf, isTuple, hasEdges, hasFaces, isSound, isFilled, isOnePart, numbersOf}
-use Rattle.cells.specs.Rows.{threes, fours, pointsOf, facetIn, ownNumbers}
-use Rattle.around.specs.Index.{togetherIn}
+use Rattle.cells.specs.between.Rows.{threes, fours, pointsOf, facetIn, ownNumbers}
+use Rattle.tets_around.specs.Sharing.{togetherIn}
 use Rattle.cells.proofs.InArrays.{tuple-in, edges-in, faces-in, sound-in, numbers-in, filled-in, part-in}
-use Rattle.verdict.specs.Judged.{TablesOf}
-use Rattle.judging.specs.Last.{lastOf, lastWith, lastFailing}
+use Rattle.verdict.specs.between.Judged.{TablesOf}
+use Rattle.judging.specs.between.Last.{lastOf, lastWith, lastFailing}
 
 module _ (zs : List ℤ) (ls ps c : List ℕ) {t : Template} {k : ℕ} {ts qs cs ws : List ℕ} (w : TablesOf t k ts qs cs ws) where
   pub tuple-is : areCorners (length zs / 3) k c ≡ isTuple (meshOf zs ls ps) t c

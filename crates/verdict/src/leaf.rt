@@ -8,9 +8,9 @@ ghost use mathlib.Core.Path.{_≡_};
 ghost use mathlib.Core.Bool.{true};
 ghost use Prim.Native.Nat.{_/_};
 ghost use lib.ListN.{length};
-ghost use Rattle.filling.specs.Found.{Found};
-ghost use Rattle.rule.specs.Rule.{leafIn, leafTets};
-ghost use Rattle.around.specs.Arrays.{Arrays};
+ghost use Rattle.filling.specs.between.Numbered.{Numbered};
+ghost use Rattle.rule.specs.between.Leaf.{leafIn, leafTets};
+ghost use Rattle.tets_around.specs.between.Arrays.{Arrays};
 
 // The tuple, in search order, is a cell in least form, and the tetrahedra of that cell.
 pub fn is_leaf(
@@ -24,7 +24,7 @@ pub fn is_leaf(
 ) -> Verdict
     requires { ⌜ Arrays (now coords) (now labels) (now parts) (length (now coords) / 3) (now offsets) (now entries) ⌝ }
     ensures { λ r. ⌜ r .yes ≡ leafIn (now (coords .entry)) (now (labels .entry)) (now (parts .entry)) kind s ⌝ }
-    ensures { λ r. ⌜ (r .yes ≡ true → Found (leafTets (now (coords .entry)) (now (labels .entry)) (now (parts .entry)) kind s) (r .tets)) ⌝ }
+    ensures { λ r. ⌜ (r .yes ≡ true → Numbered (leafTets (now (coords .entry)) (now (labels .entry)) (now (parts .entry)) kind s) (r .tets)) ⌝ }
 {
     let c = letters(kind, s);
     if !is_least(kind, &c) {

@@ -5,12 +5,12 @@ ghost use mathlib.Core.Bool.{false};
 ghost use Prim.Native.Nat.{_/_, _≤_};
 ghost use lib.ListN.{length};
 ghost use Rattle.space.specs.Arrays.{meshOf};
-ghost use Rattle.around.specs.Arrays.{Arrays};
+ghost use Rattle.tets_around.specs.between.Arrays.{Arrays};
 ghost use Rattle.templates.specs.Tables.{Template, templateOf, tupleOf};
-ghost use Rattle.templates.specs.Flat.{pairs};
+ghost use Rattle.templates.specs.between.Flat.{pairs};
 ghost use Rattle.cells.specs.Cells.{isCell, firstFailing};
-ghost use Rattle.counting.specs.Noted.{Lettered};
-ghost use Rattle.verdict.specs.Judged.{TablesOf, isSolid, Tells, noTets};
+ghost use Rattle.counting.specs.between.Bits.{Lettered};
+ghost use Rattle.verdict.specs.between.Judged.{TablesOf, isSolid, Tells, noTets};
 
 mod leaf;
 mod rows;

@@ -1,7 +1,7 @@
 // The tables of the three kinds, in one, and where those of a kind stand.
 use templates::ROWS;
 ghost use mathlib.Core.Path.{_≡_};
-ghost use Rattle.verdict.specs.Laid.{rows, boundsOf, Rising};
+ghost use Rattle.verdict.specs.between.FlatTables.{allRows, boundsOf, BoundsRise};
 
 // How many corners a kind has, and where each of its tables begins in the rows of all; the last ends at `end`.
 pub struct Bounds {
@@ -16,7 +16,7 @@ pub struct Bounds {
 
 // The rows of all; a name for them keeps them out of what is to be proved of their users.
 pub fn all_rows() -> [u8; 308]
-    ensures { λ r. ⌜ r ≡ rows ⌝ }
+    ensures { λ r. ⌜ r ≡ allRows ⌝ }
 {
     ROWS
 }
@@ -24,7 +24,7 @@ pub fn all_rows() -> [u8; 308]
 // A kind other than 8 and 6 counts as 5.
 pub fn bounds_of(kind: u16) -> Bounds
     ensures { λ r. ⌜ r ≡ boundsOf kind ⌝ }
-    ensures { λ r. ⌜ Rising r ⌝ }
+    ensures { λ r. ⌜ BoundsRise r ⌝ }
 {
     if kind == 8 {
         return Bounds {

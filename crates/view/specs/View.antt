@@ -10,23 +10,23 @@ use Rattle.space.specs.Mesh.{Mesh, Tetrahedron, point}
 use Rattle.space.specs.declared.Vertex.{Vertex}
 use Rattle.space.specs.declared.Tet.{Tet}
 use Rattle.layout.specs.Layout.{meshIn}
-use Rattle.view.specs.declared.Place.{Place}
-use Rattle.view.specs.declared.Place.the-variants.{At, Nowhere}
+use Rattle.view.specs.declared.Located.{Located}
+use Rattle.view.specs.declared.Located.the-variants.{At, Nowhere}
 use Rattle.view.specs.declared.Tetra.{Tetra}
 use Rattle.view.specs.declared.Tetra.the-variants.{Four, NoTet}
 use Rattle.view.specs.declared.Part.{Part}
 use Rattle.view.specs.declared.Part.the-variants.{Number, NoPart}
 
 -- n vertices and t tetrahedra fill the file to its end
-unfoldable pub fits : List ℕ → ℕ → ℕ → Bool
-fits f n t = leb n 512 && leb t 2048 && eqb (length f) (24 + 12 * n + 10 * t)
+unfoldable pub fillsFile : List ℕ → ℕ → ℕ → Bool
+fillsFile f n t = leb n 512 && leb t 2048 && eqb (length f) (24 + 12 * n + 10 * t)
 
-abbrev pub tet : Mesh → ℕ → Tetrahedron
-tet m e = getD (m .tets) e (record { vertices = []; part = 0 })
+abbrev pub tetrahedron : Mesh → ℕ → Tetrahedron
+tetrahedron m e = getD (m .tets) e (record { vertices = []; part = 0 })
 
 -- the point of vertex v
-unfoldable pub placeIn : List ℕ → ℕ → ℕ → Vertex → Place
-placeIn f n t v = cond (fits f n t && ltb (v .0) n) (At (point (meshIn f n t) (v .0))) Nowhere
+unfoldable pub placeIn : List ℕ → ℕ → ℕ → Vertex → Located
+placeIn f n t v = cond (fillsFile f n t && ltb (v .0) n) (At (point (meshIn f n t) (v .0))) Nowhere
 
 -- label k of a tetrahedron
 abbrev pub vertexAt : Tetrahedron → ℕ → Vertex
@@ -37,8 +37,8 @@ four x = Four (vertexAt x 0) (vertexAt x 1) (vertexAt x 2) (vertexAt x 3)
 
 -- the four vertices of tetrahedron e
 unfoldable pub tetraIn : List ℕ → ℕ → ℕ → Tet → Tetra
-tetraIn f n t e = cond (fits f n t && ltb (e .0) t) (four (tet (meshIn f n t) (e .0))) NoTet
+tetraIn f n t e = cond (fillsFile f n t && ltb (e .0) t) (four (tetrahedron (meshIn f n t) (e .0))) NoTet
 
 -- the part of tetrahedron e
 unfoldable pub partIn : List ℕ → ℕ → ℕ → Tet → Part
-partIn f n t e = cond (fits f n t && ltb (e .0) t) (Number (tet (meshIn f n t) (e .0) .part)) NoPart
+partIn f n t e = cond (fillsFile f n t && ltb (e .0) t) (Number (tetrahedron (meshIn f n t) (e .0) .part)) NoPart

@@ -8,11 +8,11 @@ use space::Vertex;
 ghost use mathlib.Core.Path.{_≡_};
 ghost use Prim.Native.Nat.{_+_, _*_, _≤_};
 ghost use lib.ListN.{length};
-ghost use Rattle.view.specs.View.{fits, placeIn, tetraIn, partIn};
-ghost use Rattle.view.specs.Reads.{pointRead, tetraRead};
+ghost use Rattle.view.specs.View.{fillsFile, placeIn, tetraIn, partIn};
+ghost use Rattle.view.specs.between.Reads.{pointRead, tetraRead};
 
 // Where a vertex is.
-pub enum Place {
+pub enum Located {
     At(Point),
     Nowhere,
 }
@@ -36,7 +36,7 @@ pub enum Part {
 
 // The counts fill the file: without this no reader below looks into it.
 fn counts_fit(file: &[u8], n: usize, t: usize) -> bool
-    ensures { λ r. ⌜ r ≡ fits (now (file .entry)) n t ⌝ }
+    ensures { λ r. ⌜ r ≡ fillsFile (now (file .entry)) n t ⌝ }
 {
     if 512 < n {
         return false;
@@ -75,17 +75,17 @@ fn tet_in(part: &[u8], j: usize) -> Tetra
 }
 
 // The point of a vertex, in a file with `n` vertices and `t` tetrahedra.
-pub fn point_of(file: &[u8], n: usize, t: usize, v: Vertex) -> Place
+pub fn point_of(file: &[u8], n: usize, t: usize, v: Vertex) -> Located
     ensures { λ r. ⌜ r ≡ placeIn (now (file .entry)) n t v ⌝ }
 {
     if !counts_fit(file, n, t) {
-        return Place::Nowhere;
+        return Located::Nowhere;
     }
     let k = v.0 as usize;
     if k < n {
-        Place::At(point_in(&file[24..], k))
+        Located::At(point_in(&file[24..], k))
     } else {
-        Place::Nowhere
+        Located::Nowhere
     }
 }
 

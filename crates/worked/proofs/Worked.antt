@@ -14,13 +14,13 @@ use Rattle.space.specs.Box.{box}
 use Rattle.space.specs.Mesh.{together}
 use Rattle.layout.specs.Bytes.{signed32, i32At}
 use Rattle.layout.specs.Layout.{vertices, decoded, lengthRight, countsRight, layoutRight, coordsIn, labelsIn, partsIn}
-use Rattle.tets.specs.Tets.{boxAt, outside, twice, flat}
+use Rattle.tets.specs.Tets.{boxIn, outside, twice, flat}
 use Rattle.facets.specs.Facets.{opposite, full, crowded, astray, clashes, clashing, folded}
 use Rattle.arrays.specs.Refusals.{refusals, refusal, answered}
-use Rattle.least.specs.Least.{rises, risesAt}
+use Rattle.least.specs.Least.{firstIsLess, risesAt}
 use Rattle.turning.specs.Form.{leastBy, formBy, leastForm}
 use Rattle.cells.specs.Full.{Cell, fullList}
-use Rattle.neighbours.specs.Table.{rowOf, rowsOf, offsets, tableBy, neighboursOf, tableOf}
+use Rattle.neighbours.specs.Table.{neighbourRow, firstRows, offsets, tableBy, neighboursOf, tableOf}
 use Rattle.portions.specs.Portions.{Portion, reply, refused, before, isAfter, after, records, lastMark, portionOf, portion}
 use Rattle.record.specs.Entries.{entries}
 use Rattle.rule.specs.Rule.{key, tetRule}
@@ -37,7 +37,7 @@ use Rattle.worked.proofs.Lists.{full-P, full-C, full-mixed, lists-hold}
 
 -- what an answer of the check is computed by
 unfoldable reading : ℕ
-unfolding box signed32 i32At lengthRight countsRight layoutRight coordsIn labelsIn partsIn boxAt opposite outside twice flat full crowded astray clashes clashing folded firstOf refusal answered
+unfolding box signed32 i32At lengthRight countsRight layoutRight coordsIn labelsIn partsIn boxIn opposite outside twice flat full crowded astray clashes clashing folded firstOf refusal answered
 reading = 0
 
 reads-P : decoded fileP ≡ meshP
@@ -71,7 +71,7 @@ flat-turned = refl
 -- ---- their tables
 
 unfoldable tabling : ℕ
-unfolding keep spread together rowOf rowsOf offsets tableBy neighboursOf tableOf
+unfolding keep spread together neighbourRow firstRows offsets tableBy neighboursOf tableOf
 tabling = 0
 
 table-P : tableOf meshP 5 ≡ tableP
@@ -152,7 +152,7 @@ unfolding keep spread before isAfter after records lastMark portionOf portion ke
 opened = 0
 
 forms-hold : RowsHold forms
-unfolding ask leastForm formBy leastBy risesAt rises keep
+unfolding ask leastForm formBy leastBy risesAt firstIsLess keep
 forms-hold = refl
 
 checks-hold : RowsHold checks

@@ -27,16 +27,16 @@ vertex x y z = u32 x ++ u32 y ++ u32 z
 abbrev pub joins : ℕ → ℕ → ℕ → ℕ → List ℕ
 joins a b c d = u16 a ++ u16 b ++ u16 c ++ u16 d ++ u16 0
 
-abbrev pub flat : List (List ℕ) → List ℕ
-flat [] = []
-flat (x ∷ xs) = x ++ flat xs
+abbrev pub bytesOf : List (List ℕ) → List ℕ
+bytesOf [] = []
+bytesOf (x ∷ xs) = x ++ bytesOf xs
 
 -- the file of these vertices and tetrahedra
 abbrev pub file : List (List ℕ) → List (List ℕ) → List ℕ
 file vs ts =
     let n = length vs in
     let t = length ts in
-    header n 24 t (24 + 12 * n) (24 + 12 * n + 10 * t) 0 ++ flat vs ++ flat ts
+    header n 24 t (24 + 12 * n) (24 + 12 * n + 10 * t) 0 ++ bytesOf vs ++ bytesOf ts
 
 -- ---- the files of the meshes
 

@@ -61,8 +61,8 @@ tableC =
 abbrev pub mark : ℕ → ℕ → ℕ → ℕ → ℕ → ℕ → ℕ → ℕ → ℕ → List ℕ
 mark k a b c d e f g h = k ∷ a ∷ b ∷ c ∷ d ∷ e ∷ f ∷ g ∷ h ∷ []
 
-abbrev pub start : List ℕ
-start = mark 65535 0 0 0 0 0 0 0 0
+abbrev pub startOf : List ℕ
+startOf = mark 65535 0 0 0 0 0 0 0 0
 
 abbrev pub zeros : List ℕ
 zeros = mark 0 0 0 0 0 0 0 0 0
@@ -72,21 +72,21 @@ abbrev pub nines : ℕ → List ℕ
 nines n = replicate n 9
 
 -- this many entries that are not used
-abbrev pub unused : ℕ → List ℕ
-unused n = replicate n 65535
+abbrev pub unusedPlaces : ℕ → List ℕ
+unusedPlaces n = replicate n 65535
 
 -- the record of P's cell, the first two of C's and the last
 abbrev pub recordP : List ℕ
-recordP = (5 ∷ 0 ∷ 1 ∷ 2 ∷ 3 ∷ 4 ∷ unused 3) ++ (2 ∷ 0 ∷ 1 ∷ unused 23)
+recordP = (5 ∷ 0 ∷ 1 ∷ 2 ∷ 3 ∷ 4 ∷ unusedPlaces 3) ++ (2 ∷ 0 ∷ 1 ∷ unusedPlaces 23)
 
 abbrev pub firstC : List ℕ
-firstC = (8 ∷ 0 ∷ 1 ∷ 2 ∷ 3 ∷ 4 ∷ 5 ∷ 6 ∷ 7 ∷ []) ++ (5 ∷ 0 ∷ 1 ∷ 2 ∷ 3 ∷ 4 ∷ unused 20)
+firstC = (8 ∷ 0 ∷ 1 ∷ 2 ∷ 3 ∷ 4 ∷ 5 ∷ 6 ∷ 7 ∷ []) ++ (5 ∷ 0 ∷ 1 ∷ 2 ∷ 3 ∷ 4 ∷ unusedPlaces 20)
 
 abbrev pub secondC : List ℕ
-secondC = (6 ∷ 0 ∷ 1 ∷ 2 ∷ 4 ∷ 5 ∷ 7 ∷ unused 2) ++ (3 ∷ 0 ∷ 2 ∷ 4 ∷ unused 22)
+secondC = (6 ∷ 0 ∷ 1 ∷ 2 ∷ 4 ∷ 5 ∷ 7 ∷ unusedPlaces 2) ++ (3 ∷ 0 ∷ 2 ∷ 4 ∷ unusedPlaces 22)
 
 abbrev pub lastC : List ℕ
-lastC = (5 ∷ 2 ∷ 5 ∷ 7 ∷ 3 ∷ 0 ∷ unused 3) ++ (2 ∷ 1 ∷ 4 ∷ unused 23)
+lastC = (5 ∷ 2 ∷ 5 ∷ 7 ∷ 3 ∷ 0 ∷ unusedPlaces 3) ++ (2 ∷ 1 ∷ 4 ∷ unusedPlaces 23)
 
 -- ---- the questions, and the answers by the definitions
 
@@ -278,28 +278,28 @@ giving k written more a =
 abbrev pub calls : List Row
 calls =
     -- P: one cell; with more room and a longer table, and with exactly enough of both; with a table one short
-    row (calling fileP start (nines 26) (nines 37)) (left (given 1 true zeros) (tableP ++ nines 2) (recordP ++ nines 2)) ∷
-    row (calling fileP start (nines 24) (nines 35)) (left (given 1 true zeros) tableP recordP) ∷
-    refusing fileP start 23 35 10 ∷
+    row (calling fileP startOf (nines 26) (nines 37)) (left (given 1 true zeros) (tableP ++ nines 2) (recordP ++ nines 2)) ∷
+    row (calling fileP startOf (nines 24) (nines 35)) (left (given 1 true zeros) tableP recordP) ∷
+    refusing fileP startOf 23 35 10 ∷
     -- C with room for 25; with room for 24, and then for 1 from the mark handed back
-    giving start (records tetRule listC) 0 (given 25 true zeros) ∷
-    giving start (records tetRule (take 24 listC)) 0 (given 24 false (mark 5 2 5 4 7 0 0 0 0)) ∷
+    giving startOf (records tetRule listC) 0 (given 25 true zeros) ∷
+    giving startOf (records tetRule (take 24 listC)) 0 (given 24 false (mark 5 2 5 4 7 0 0 0 0)) ∷
     giving (mark 5 2 5 4 7 0 0 0 0) lastC 0 (given 1 true zeros) ∷
     -- from that mark, whatever stands beyond the corners
     giving (mark 5 2 5 4 7 0 9 9 9) lastC 0 (given 1 true zeros) ∷
     -- C from the start mark with 34 entries, with 35, and with 69
-    refusing fileC start 45 34 11 ∷
-    giving start firstC 0 (given 1 false (mark 8 0 1 2 3 4 5 6 7)) ∷
-    giving start firstC 34 (given 1 false (mark 8 0 1 2 3 4 5 6 7)) ∷
+    refusing fileC startOf 45 34 11 ∷
+    giving startOf firstC 0 (given 1 false (mark 8 0 1 2 3 4 5 6 7)) ∷
+    giving startOf firstC 34 (given 1 false (mark 8 0 1 2 3 4 5 6 7)) ∷
     giving (mark 8 0 1 2 3 4 5 6 7) secondC 0 (given 1 false (mark 6 0 1 2 4 5 7 0 0)) ∷
     -- a table one short, and a room that is short as well
-    refusing fileC start 44 35 10 ∷
-    refusing fileC start 44 34 10 ∷
+    refusing fileC startOf 44 35 10 ∷
+    refusing fileC startOf 44 34 10 ∷
     -- C in two parts: no cells, and the end at once
-    row (calling mixed start (nines 45) (nines 35)) (left (given 0 true zeros) tableC (nines 35)) ∷
+    row (calling mixed startOf (nines 45) (nines 35)) (left (given 0 true zeros) tableC (nines 35)) ∷
     -- a box of -2, whatever the table and the room
-    refusing turned start 45 35 7 ∷
-    refusing turned start 0 0 7 ∷
+    refusing turned startOf 45 35 7 ∷
+    refusing turned startOf 0 0 7 ∷
     -- marks that are never handed out: kinds that are none; no cell's tuple, with numbers beyond the corners; a tuple
     -- past all
     giving (mark 7 9 9 9 9 9 9 9 9) secondC 0 (given 1 false (mark 6 0 1 2 4 5 7 0 0)) ∷

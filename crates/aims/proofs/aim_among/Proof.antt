@@ -10,8 +10,8 @@ use Rattle.aims.proofs.aim_among.Tie as tie
 fuller-requires : tie.Need-fuller-requires
 fuller-requires c κs = search needs
 
-row-of-requires : tie.Need-row-of-requires
-row-of-requires c κs = search needs
+neighbour-row-requires : tie.Need-neighbour-row-requires
+neighbour-row-requires c κs = search needs
 
 returns : tie.Need-returns
 returns c = record { none = λ e. absurd (true≢false e); each = λ e. (refl, inl refl); either = λ e. absurd (true≢false e) }
@@ -33,4 +33,4 @@ returns-4 c =
 
 pub aim-among-spec : {M : Type 1} → statement M
 aim-among-spec =
-    tie.close (tie.spec fuller-requires row-of-requires returns returns-2 returns-3 returns-4)
+    tie.close (tie.spec fuller-requires neighbour-row-requires returns returns-2 returns-3 returns-4)

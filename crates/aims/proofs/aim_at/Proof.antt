@@ -38,14 +38,14 @@ array-read-t14 c = search needs
 sole-requires : tie.Need-sole-requires
 sole-requires c κs = search needs
 
-aim-by-requires : tie.Need-aim-by-requires
-aim-by-requires c κs =
+aim-from-links-requires : tie.Need-aim-from-links-requires
+aim-from-links-requires c κs =
     let z = c .before .before .before .before .before .before in
     let which : (z .args .place .row ≡ 3) ⊎ (z .args .place .row ≡ 11) = ⊎-elim (λ w. inr (omega arith)) (λ w. inl (omega arith)) (c .before .before .if1 .came) in
     (z .pre .rowed, which)
 
 returns-3 : tie.Need-returns-3
-returns-3 c = aims-of (rw (c .before .before .wide .ensures .0) at (c .before .sole .ensures)) (c .aim-by .ensures)
+returns-3 c = aims-of (rw (c .before .before .wide .ensures .0) at (c .before .sole .ensures)) (c .aim-from-links .ensures)
 
 pub aim-at-spec : {M : Type 1} → statement M
 aim-at-spec =
@@ -61,5 +61,5 @@ aim-at-spec =
     add-t23
     array-read-t14
     sole-requires
-    aim-by-requires
+    aim-from-links-requires
     returns-3)

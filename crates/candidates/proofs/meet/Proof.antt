@@ -3,17 +3,17 @@ use Prim.Native.Nat.{_+_, _-_}
 use mathlib.Core.Logic.{inl, inr}
 use lib.ListN.{length}
 use native.Mathlib.Omega.{arith}
-use Rattle.levels.specs.Fits.{fitsWith}
+use Rattle.levels.specs.between.Passing.{passesWith}
 use Rattle.candidates.proofs.Meeting.{Onward, onward-from, onward-first, onward-second, met-none, met-here}
 use borrow.Author.Needs.{needs}
 use Rattle.candidates.proofs.meet.Statement.{statement}
 use Rattle.candidates.proofs.meet.Tie as tie
 
 abbrev Inv-loop : tie.InvT-loop
-Inv-loop tables coords marks one two place lo i₀ j₀ i j = Onward (fitsWith coords marks place) one two lo i j
+Inv-loop tables coords hints one two place lo i₀ j₀ i j = Onward (passesWith coords hints place) one two lo i j
 
 abbrev μ-loop : tie.MeasureT-loop
-μ-loop tables coords marks one two place lo i₀ j₀ i j = (length one - i) + (length two - j)
+μ-loop tables coords hints one two place lo i₀ j₀ i j = (length one - i) + (length two - j)
 
 enter-requires : tie.Need-enter-requires Inv-loop μ-loop
 enter-requires c κs = c .before .before .before .before .pre .1 .1 .1 .0

@@ -1,7 +1,6 @@
 -- `candidates::partner` meets its contract. Assumes nothing.
 use mathlib.Core.Path.{refl}
 use mathlib.Core.Logic.{inl, inr}
-use borrow.Author.Needs.{needs}
 use Rattle.candidates.proofs.partner.Statement.{statement}
 use Rattle.candidates.proofs.partner.Tie as tie
 

@@ -3,7 +3,7 @@ use mathlib.Core.Path.{_≡_, refl, sym, _∙_}
 use Prim.Native.Nat.{_/_, _-_}
 use lib.ListN.{length}
 use borrow.Author.Tests.{not-true, not-false}
-use Rattle.cells.specs.Rows.{row3, facetIn}
+use Rattle.cells.specs.between.Rows.{row3, facetIn}
 use Rattle.base.proofs.Loop.{AllUp, all-start, all-next, all-fails, all-done}
 use native.Mathlib.Omega.{arith}
 use Rattle.cells.proofs.all_facets.Statement.{statement}

@@ -5,7 +5,7 @@ use lib.ListN.{length}
 use borrow.Author.Tests.{not-true, not-false}
 use Rattle.space.specs.Arrays.{row4}
 use Rattle.cells.specs.Cells.{splits}
-use Rattle.cells.specs.Rows.{facetIn}
+use Rattle.cells.specs.between.Rows.{facetIn}
 use Rattle.base.proofs.Loop.{AllUp, all-start, all-next, all-fails, all-done}
 use native.Mathlib.Omega.{arith}
 use Rattle.cells.proofs.all_split.Statement.{statement}

@@ -4,8 +4,8 @@ use Prim.Native.Nat.{_/_, _-_}
 use lib.ListN.{length}
 use borrow.Author.Tests.{not-true, not-false}
 use Rattle.templates.specs.Tables.{at}
-use Rattle.templates.specs.Flat.{pairAt}
-use Rattle.around.specs.Index.{togetherIn}
+use Rattle.templates.specs.between.Flat.{pairAt}
+use Rattle.tets_around.specs.Sharing.{togetherIn}
 use Rattle.base.proofs.Loop.{AllUp, all-start, all-next, all-fails, all-done}
 use native.Mathlib.Omega.{arith}
 use Rattle.cells.proofs.has_edges.Statement.{statement}

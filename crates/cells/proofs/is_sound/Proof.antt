@@ -7,7 +7,7 @@ use Rattle.space.specs.Box.{isAbove0}
 use Rattle.space.specs.Arrays.{row4}
 use Rattle.templates.specs.Tables.{at}
 use Rattle.cells.specs.Cells.{boxOf}
-use Rattle.cells.specs.Rows.{pointsOf}
+use Rattle.cells.specs.between.Rows.{pointsOf}
 use Rattle.base.proofs.Loop.{AllUp, all-start, all-next, all-fails, all-done}
 use native.Mathlib.Omega.{arith}
 use Rattle.cells.proofs.is_sound.Statement.{statement}

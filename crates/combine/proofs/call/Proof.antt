@@ -10,7 +10,7 @@ use Rattle.combine.proofs.call.Tie as tie
 use Rattle.combine.proofs.call.Reads as reads
 use Rattle.combine.proofs.call.Lts as lts
 use Rattle.combine.proofs.batch.Reads as batch-reads
-use Rattle.combine.proofs.told.Reads as told-reads
+use Rattle.combine.proofs.show_answer.Reads as told-reads
 use Rattle.listing.proofs.portion.Reads as portion-reads
 
 -- src/main.rt:212:20
@@ -34,8 +34,8 @@ portion-requires : tie.Need-portion-requires
 portion-requires c κs = search needs
 
 -- src/main.rt:215:5
-told-requires : tie.Need-told-requires
-told-requires c κs = search needs
+show-answer-requires : tie.Need-show-answer-requires
+show-answer-requires c κs = search needs
 
 -- src/main.rt:201:1
 same-length : tie.Need-same-length
@@ -62,7 +62,7 @@ call-spec =
     slice-relend-prefix-part
     slice-aggregate-part
     portion-requires
-    told-requires
+    show-answer-requires
     same-length
     same-length-2
     same-length-3

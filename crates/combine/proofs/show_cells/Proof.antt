@@ -1,12 +1,9 @@
 -- `combine::show_cells` meets its contract. The loop's invariant:
 -- the text has its length, and the next line's place lies in it. Assumes nothing.
 use mathlib.Core.Path.{_≡_}
-use Prim.Native.Nat.{_+_, _*_, _-_, _≤_, _<_}
+use Prim.Native.Nat.{_-_, _≤_}
 use native.Mathlib.Omega.{arith}
-use lib.ListN.{length, drop, length-take, length-drop}
-use Rattle.lines.specs.Text.{cellLine}
-use Rattle.lines.proofs.Numbers.{line-length}
-use borrow.Author.Needs.{needs}
+use lib.ListN.{length}
 use Rattle.combine.proofs.show_cells.Statement.{statement}
 use Rattle.combine.proofs.show_cells.Tie as tie
 

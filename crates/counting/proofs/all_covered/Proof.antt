@@ -5,7 +5,7 @@ use lib.ListN.{length}
 use borrow.Author.Tests.{not-true, not-false}
 use Rattle.space.specs.Arrays.{row4}
 use Rattle.cells.specs.Cells.{covers}
-use Rattle.counting.specs.Noted.{sidesBy}
+use Rattle.counting.specs.between.Bits.{sidesBy}
 use Rattle.base.proofs.Loop.{AllUp, all-start, all-next, all-fails, all-done}
 use native.Mathlib.Omega.{arith}
 use Rattle.counting.proofs.all_covered.Statement.{statement}

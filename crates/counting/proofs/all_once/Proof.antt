@@ -4,8 +4,8 @@ use Prim.Native.Nat.{_/_, _-_}
 use lib.ListN.{length}
 use borrow.Author.Tests.{eq-eqb, ne-eqb}
 use Rattle.cells.specs.Cells.{one, once}
-use Rattle.cells.specs.Rows.{row3}
-use Rattle.counting.specs.Noted.{sidesBy}
+use Rattle.cells.specs.between.Rows.{row3}
+use Rattle.counting.specs.between.Bits.{sidesBy}
 use Rattle.base.proofs.Loop.{AllUp, all-start, all-next, all-fails, all-done}
 use native.Mathlib.Omega.{arith}
 use Rattle.counting.proofs.all_once.Statement.{statement}

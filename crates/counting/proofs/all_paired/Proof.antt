@@ -3,9 +3,9 @@ use mathlib.Core.Path.{_≡_, refl, sym, _∙_}
 use Prim.Native.Nat.{_/_, _-_}
 use lib.ListN.{length}
 use borrow.Author.Tests.{not-true, not-false}
-use Rattle.cells.specs.Rows.{row3}
+use Rattle.cells.specs.between.Rows.{row3}
 use Rattle.cells.specs.Cells.{paired}
-use Rattle.counting.specs.Noted.{sidesBy}
+use Rattle.counting.specs.between.Bits.{sidesBy}
 use Rattle.base.proofs.Loop.{AllUp, all-start, all-next, all-fails, all-done}
 use native.Mathlib.Omega.{arith}
 use Rattle.counting.proofs.all_paired.Statement.{statement}

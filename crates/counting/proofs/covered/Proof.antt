@@ -1,6 +1,7 @@
 -- `counting::covered` meets its contract. Assumes nothing.
 use mathlib.Core.Path.{sym, _∙_}
-use Rattle.cells.specs.Cells.{first, second, isDiagonal}
+use Rattle.cells.specs.Cells.{oneDiagonal, otherDiagonal}
+use Rattle.cells.specs.between.Diagonal.{isDiagonal}
 use borrow.Author.Needs.{needs}
 use Rattle.counting.proofs.Sides.{low-below}
 use Rattle.counting.proofs.covered.Statement.{statement}
@@ -58,7 +59,7 @@ is-diagonal-requires : tie.Need-is-diagonal-requires
 is-diagonal-requires c κs = search needs
 
 returns : tie.Need-returns
-unfolding first second isDiagonal
+unfolding oneDiagonal otherDiagonal isDiagonal
 returns c =
     let e = sym (c .before .is-diagonal .ensures) ∙ c .if1 .taken in
     sym (rw (rw (c .before .before .before .before .before .sides-of .ensures, c .before .before .before .before .sides-of2 .ensures, c .before .before .before .sides-of3 .ensures, c .before .before .sides-of4 .ensures) at e))
@@ -67,7 +68,7 @@ is-diagonal-requires-2 : tie.Need-is-diagonal-requires-2
 is-diagonal-requires-2 c κs = search needs
 
 returns-2 : tie.Need-returns-2
-unfolding first second isDiagonal
+unfolding oneDiagonal otherDiagonal isDiagonal
 returns-2 c =
     let e = sym (c .before .before .is-diagonal .ensures) ∙ c .before .if1 .left in
     (rw (c .before .before .before .before .before .before .sides-of .ensures, c .before .before .before .before .before .sides-of2 .ensures, c .before .before .before .before .sides-of3 .ensures, c .before .before .before .sides-of4 .ensures) at (c .is-diagonal2 .ensures)) ∙

@@ -2,7 +2,8 @@
 use mathlib.Core.Path.{sym, _∙_}
 use borrow.Author.Tests.{eq-eqb, ne-eqb, not-true, not-false}
 use Rattle.base.proofs.Bools.{and-true}
-use Rattle.cells.specs.Cells.{one, isDiagonal}
+use Rattle.cells.specs.Cells.{one}
+use Rattle.cells.specs.between.Diagonal.{isDiagonal}
 use borrow.Author.Needs.{needs}
 use Rattle.counting.proofs.is_diagonal.Statement.{statement}
 use Rattle.counting.proofs.is_diagonal.Tie as tie

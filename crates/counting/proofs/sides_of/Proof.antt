@@ -3,12 +3,12 @@ use mathlib.Core.List.{[], _∷_}
 use Prim.Native.Nat.{_-_, _≤_}
 use native.Mathlib.Omega.{arith}
 use Rattle.base.proofs.Loop.{CountUp, count-start}
-use Rattle.counting.proofs.Sides.{both-small, product, marked, count-mark, count-all}
+use Rattle.counting.proofs.Sides.{both-small, product, areSet, count-bit, count-all}
 use Rattle.counting.proofs.sides_of.Statement.{statement}
 use Rattle.counting.proofs.sides_of.Tie as tie
 
 abbrev Inv-loop : tie.InvT-loop
-Inv-loop has x y z a b d n found₀ k₀ found k = (found ≤ k) × CountUp (marked has (a ∷ b ∷ d ∷ [])) (λ i. i) n k found
+Inv-loop has x y z a b d n found₀ k₀ found k = (found ≤ k) × CountUp (areSet has (a ∷ b ∷ d ∷ [])) (λ i. i) n k found
 
 abbrev μ-loop : tie.MeasureT-loop
 μ-loop has x y z a b d n found₀ k₀ found k = n - k
@@ -88,7 +88,7 @@ loop-again c =
     let g = m k (s .args .x) (omega arith) (omega arith) in
     let h = m k (s .args .y) (omega arith) (omega arith) in
     let l = m k (s .args .z) (omega arith) (omega arith) in
-    (omega (arith, both-small _ _ (both-small _ _ g h) l), count-mark (c .before .before .before .before .loop .inv .1) (omega arith) _ (product _ _ _ g h l))
+    (omega (arith, both-small _ _ (both-small _ _ g h) l), count-bit (c .before .before .before .before .loop .inv .1) (omega arith) _ (product _ _ _ g h l))
 
 returns : tie.Need-returns Inv-loop μ-loop
 returns c = count-all _ _ (c .before .loop .inv .1) (omega arith)

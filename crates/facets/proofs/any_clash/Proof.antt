@@ -5,7 +5,8 @@ use native.Mathlib.Omega.{arith}
 use lib.ListN.{length, getD}
 use Rattle.base.specs.Lists.{any}
 use Rattle.base.proofs.Loop.{AnyUp, any-start, any-next, any-found, any-done, listed}
-use Rattle.facets.specs.Facets.{atFacet, clashes}
+use Rattle.facets.specs.Facets.{clashes}
+use Rattle.facets.specs.between.Tries.{atFacet}
 use Rattle.facets.proofs.any_clash.Statement.{statement}
 use Rattle.facets.proofs.any_clash.Tie as tie
 

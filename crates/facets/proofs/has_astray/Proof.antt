@@ -1,5 +1,6 @@
 -- `facets::has_astray` meets its contract. Assumes nothing.
-use Rattle.facets.specs.Facets.{atFacet, astray}
+use Rattle.facets.specs.Facets.{astray}
+use Rattle.facets.specs.between.Tries.{atFacet}
 use Rattle.tets.proofs.Tests.{vertex-1, vertex-2, vertex-3, vertex-4}
 use borrow.Author.Needs.{needs}
 use Rattle.facets.proofs.has_astray.Statement.{statement}

@@ -4,8 +4,8 @@ use mathlib.Core.Logic.{⊎-elim}
 use Prim.Native.Nat.{_/_, _-_, _≤_}
 use lib.ListN.{length}
 use native.Mathlib.Omega.{arith}
-use Rattle.cells.specs.Rows.{fours, owns}
-use Rattle.filling.specs.Next.{Aside, leftOut}
+use Rattle.cells.specs.between.Rows.{fours, owns}
+use Rattle.filling.specs.between.Next.{Aside, leftOut}
 use Rattle.filling.proofs.Nearby.{aside-none}
 use Rattle.filling.proofs.crowd_of.Statement.{statement}
 use Rattle.filling.proofs.crowd_of.Tie as tie

@@ -2,14 +2,14 @@
 use Prim.Native.Nat.{_-_}
 use lib.ListN.{length}
 use native.Mathlib.Omega.{arith}
-use Rattle.cells.specs.Rows.{fours, owns}
-use Rattle.filling.specs.Next.{Passed}
+use Rattle.cells.specs.between.Rows.{fours, owns}
+use Rattle.filling.specs.between.Next.{ReadUpTo}
 use Rattle.filling.proofs.Nearby.{passed-next, least-none, least-past, least-hit}
 use Rattle.filling.proofs.least_in.Statement.{statement}
 use Rattle.filling.proofs.least_in.Tie as tie
 
 abbrev Inv-loop : tie.InvT-loop
-Inv-loop labels row s m c quads at₀ at = Passed (owns labels (fours quads) c) (s .lo) row at
+Inv-loop labels row s m c quads at₀ at = ReadUpTo (owns labels (fours quads) c) (s .lo) row at
 
 abbrev μ-loop : tie.MeasureT-loop
 μ-loop labels row s m c quads at₀ at = length row - at

@@ -1,11 +1,11 @@
 -- `filling::row_at` meets its contract. Assumes nothing.
-use Rattle.around.proofs.Around.{row-slice}
+use Rattle.tets_around.proofs.Around.{row-slice}
 use borrow.Author.Needs.{needs}
 use Rattle.filling.proofs.row_at.Statement.{statement}
 use Rattle.filling.proofs.row_at.Tie as tie
 
-row-of-requires : tie.Need-row-of-requires
-row-of-requires c κs = search needs
+around-row-requires : tie.Need-around-row-requires
+around-row-requires c κs = search needs
 
 add-end : tie.Need-add-end
 add-end c = search needs
@@ -23,13 +23,13 @@ part-result-end : tie.Need-part-result-end
 part-result-end c = search needs
 
 returns : tie.Need-returns
-returns c = row-slice (c .before .before .row-of .ensures)
+returns c = row-slice (c .before .before .around-row .ensures)
 
 pub row-at-spec : {M : Type 1} → statement M
 row-at-spec =
     tie.close
     (tie.spec
-    row-of-requires
+    around-row-requires
     add-end
     mul-result
     sub-result

@@ -4,7 +4,7 @@ use native.Mathlib.Omega.{arith}
 use lib.ListN.{take}
 use Rattle.templates.specs.Tables.{templateOf}
 use Rattle.order.proofs.Fronts.{ordered-front}
-use Rattle.record.specs.Marks.{letters}
+use Rattle.record.specs.Marks.{markCorners}
 use borrow.Author.Needs.{needs}
 use Rattle.following.proofs.InTurn.{agree-take}
 use Rattle.following.proofs.begin.Statement.{statement}
@@ -18,7 +18,7 @@ returns c =
     let s = c .before .before .before in
     let k = s .args .kind in
     record {
-      own = λ q. agree-take _ _ _ (ap (take (templateOf k .corners)) (c .ordered .ensures) ∙ ordered-front k (letters (s .args .mark)));
+      own = λ q. agree-take _ _ _ (ap (take (templateOf k .corners)) (c .ordered .ensures) ∙ ordered-front k (markCorners (s .args .mark)));
       below = λ l. absurd (let z : ⊥ = omega (arith, c .before .if1 .taken, s .pre) in z);
     }
 

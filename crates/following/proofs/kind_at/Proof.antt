@@ -3,7 +3,7 @@ use mathlib.Core.Path.{_≡_, refl, sym, ap}
 use native.Mathlib.Omega.{arith}
 use lib.ListN.{getD}
 use borrow.Author.Needs.{needs}
-use Rattle.following.specs.Following.{kinds}
+use Rattle.following.specs.between.Following.{kinds}
 use Rattle.following.proofs.kind_at.Statement.{statement}
 use Rattle.following.proofs.kind_at.Tie as tie
 

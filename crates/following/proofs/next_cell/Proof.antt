@@ -4,16 +4,16 @@ use native.Mathlib.Omega.{arith}
 use borrow.Author.Needs.{needs}
 use Rattle.space.specs.Arrays.{meshOf}
 use Rattle.record.specs.Marks.{markOf}
-use Rattle.following.specs.Following.{NoneIn}
+use Rattle.following.specs.between.Following.{NoneIn}
 use Rattle.following.proofs.InTurn.{none-start, none-more, came-at, came-none}
 use Rattle.following.proofs.next_cell.Statement.{statement}
 use Rattle.following.proofs.next_cell.Tie as tie
 
 abbrev Inv-loop : tie.InvT-loop
-Inv-loop tables coords labels parts n offsets entries marks table mark told i₀ i = (i ≤ 3) × NoneIn (meshOf coords labels parts) (markOf mark) i
+Inv-loop tables coords labels parts n offsets entries hints table mark told i₀ i = (i ≤ 3) × NoneIn (meshOf coords labels parts) (markOf mark) i
 
 abbrev μ-loop : tie.MeasureT-loop
-μ-loop tables coords labels parts n offsets entries marks table mark told i₀ i = 3 - i
+μ-loop tables coords labels parts n offsets entries hints table mark told i₀ i = 3 - i
 
 loop-holds : tie.Need-loop-holds Inv-loop μ-loop
 loop-holds c = (omega arith, none-start _)

@@ -10,11 +10,11 @@ returns c = search needs
 cast-t8 : tie.Need-cast-t8
 cast-t8 c = search needs
 
-tries-requires : tie.Need-tries-requires
-tries-requires c κs = search needs
+passes-with-requires : tie.Need-passes-with-requires
+passes-with-requires c κs = search needs
 
 returns-2 : tie.Need-returns-2
-returns-2 c = let a = c .before .before .before .before .args in stops-fit (a .coords .now) (a .marks .now) (a .place) (c .tries .ensures)
+returns-2 c = let a = c .before .before .before .before .args in stops-fit (a .coords .now) (a .hints .now) (a .place) (c .passes-with .ensures)
 
 pub goes-on-spec : {M : Type 1} → statement M
-goes-on-spec = tie.close (tie.spec returns cast-t8 tries-requires returns-2)
+goes-on-spec = tie.close (tie.spec returns cast-t8 passes-with-requires returns-2)

@@ -1,5 +1,5 @@
 -- `hunting::is_hub` meets its contract. Assumes nothing.
-use mathlib.Core.Path.{sym, _∙_, ap}
+use mathlib.Core.Path.{sym, _∙_}
 use mathlib.Core.Bool.{false≢true}
 use borrow.Author.Tests.{ne-eqb}
 use borrow.Author.Needs.{needs}

@@ -4,10 +4,10 @@ use mathlib.Core.Path.{sym, _∙_, ap}
 use lib.ListN.{replicate, length-take}
 use lib.Seq.{length-take-le}
 use native.Mathlib.Omega.{arith}
-use Rattle.cells.specs.Rows.{fours}
+use Rattle.cells.specs.between.Rows.{fours}
 use Rattle.record.specs.Entries.{tetPlaces}
 use Rattle.filling.proofs.Found.{found-all, listed}
-use Rattle.judging.specs.Last.{lastWith}
+use Rattle.judging.specs.between.Last.{lastWith}
 use Rattle.judging.proofs.Numbers.{listed-within, room-is}
 use borrow.Author.Needs.{needs}
 use Rattle.judging.proofs.judge_few.Statement.{statement}

@@ -1,7 +1,7 @@
 -- `judging::judge_list` meets its contract. Assumes nothing.
 use mathlib.Core.Path.{sym, _∙_}
 use borrow.Author.Tests.{not-true, not-false}
-use Rattle.judging.specs.Last.{lastWith}
+use Rattle.judging.specs.between.Last.{lastWith}
 use borrow.Author.Needs.{needs}
 use Rattle.judging.proofs.judge_list.Statement.{statement}
 use Rattle.judging.proofs.judge_list.Tie as tie

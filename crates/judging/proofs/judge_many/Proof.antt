@@ -5,8 +5,8 @@ use Prim.Native.Nat.{_/_, _-_, _≤_}
 use lib.ListN.{length, replicate, length-take}
 use lib.Seq.{length-take-le}
 use native.Mathlib.Omega.{arith}
-use Rattle.cells.specs.Rows.{fours, owns}
-use Rattle.judging.specs.Last.{lastWith}
+use Rattle.cells.specs.between.Rows.{fours, owns}
+use Rattle.judging.specs.between.Last.{lastWith}
 use Rattle.judging.proofs.Numbers.{Gathered, gather-start, gather-take, gather-skip, gathered-all, listed-within, room-is}
 use Rattle.judging.proofs.judge_many.Statement.{statement}
 use Rattle.judging.proofs.judge_many.Tie as tie

@@ -6,13 +6,13 @@ use borrow.Author.Tests.{not-true, not-false}
 use native.Mathlib.Omega.{arith}
 use Rattle.base.proofs.Loop.{AllUp, all-start, all-next, all-fails, all-done}
 use Rattle.templates.specs.Tables.{at}
-use Rattle.templates.specs.Flat.{pairAt}
-use Rattle.least.specs.Least.{rises, risesAt}
+use Rattle.templates.specs.between.Flat.{pairAt}
+use Rattle.least.specs.Least.{firstIsLess, risesAt}
 use Rattle.least.proofs.all_rise.Statement.{statement}
 use Rattle.least.proofs.all_rise.Tie as tie
 
 abbrev Inv-loop : tie.InvT-loop
-Inv-loop c less n i₀ i = (n ≡ length less / 2) × AllUp (λ p. rises (at c p)) (pairAt less) n i
+Inv-loop c less n i₀ i = (n ≡ length less / 2) × AllUp (λ p. firstIsLess (at c p)) (pairAt less) n i
 
 abbrev μ-loop : tie.MeasureT-loop
 μ-loop c less n i₀ i = n - i

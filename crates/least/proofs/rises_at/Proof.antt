@@ -1,6 +1,6 @@
 -- `least::rises_at` meets its contract. Assumes nothing.
 use borrow.Author.Needs.{needs}
-use Rattle.least.specs.Least.{rises}
+use Rattle.least.specs.Least.{firstIsLess}
 use Rattle.least.proofs.rises_at.Statement.{statement}
 use Rattle.least.proofs.rises_at.Tie as tie
 
@@ -23,7 +23,7 @@ corner-requires-2 : tie.Need-corner-requires-2
 corner-requires-2 c κs = search needs
 
 returns : tie.Need-returns
-unfolding rises
+unfolding firstIsLess
 returns c = rw (c .before .before .corner .ensures, c .corner2 .ensures)
 
 pub rises-at-spec : {M : Type 1} → statement M

@@ -3,7 +3,7 @@ use Prim.Native.Nat.{_+_}
 use mathlib.Core.Path.{_∙_, ap}
 use native.Mathlib.Omega.{arith}
 use lib.ListN.{getD}
-use Rattle.levels.specs.Levels.{also}
+use Rattle.levels.specs.between.Levels.{also}
 use Rattle.levels.proofs.Entries.{levels-long, entry-at, also-stands, also-few}
 use borrow.Author.Needs.{needs}
 use Rattle.levels.proofs.also_of.Statement.{statement}

@@ -1,6 +1,6 @@
 -- `levels::faces_at` meets its contract. Assumes nothing.
 use native.Mathlib.Omega.{arith}
-use Rattle.marks.specs.Marks.{facesNoted}
+use Rattle.facet_hints.specs.between.Hints.{facesHinted}
 use Rattle.levels.proofs.Entries.{levels-long, triangles-cut, triangles-there, quads-cut, quads-there}
 use borrow.Author.Needs.{needs}
 use Rattle.levels.proofs.faces_at.Statement.{statement}
@@ -30,7 +30,7 @@ faces-part-requires c κs =
     (z .pre .1 .0, (rw (z .pre .0, triangles-there) (triangles-cut (z .args .x) (z .pre .1 .1)), rw (z .pre .0, quads-there) (quads-cut (z .args .x) (z .pre .1 .1))))
 
 returns : tie.Need-returns
-unfolding facesNoted
+unfolding facesHinted
 returns c = let z = c .before .before .before .before .before .before in rw (z .pre .0, triangles-there, quads-there) at (c .faces-part .ensures)
 
 pub faces-at-spec : {M : Type 1} → statement M

@@ -3,7 +3,7 @@ use Prim.Native.Nat.{_+_}
 use mathlib.Core.Path.{_∙_, ap}
 use native.Mathlib.Omega.{arith}
 use lib.ListN.{getD}
-use Rattle.levels.specs.Levels.{joined}
+use Rattle.levels.specs.between.Levels.{joined}
 use Rattle.levels.proofs.Entries.{levels-long, entry-at, joined-stands, joined-few}
 use borrow.Author.Needs.{needs}
 use Rattle.levels.proofs.joined_of.Statement.{statement}

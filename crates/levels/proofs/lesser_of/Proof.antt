@@ -3,7 +3,7 @@ use Prim.Native.Nat.{_+_}
 use mathlib.Core.Path.{_∙_, ap}
 use native.Mathlib.Omega.{arith}
 use lib.ListN.{getD}
-use Rattle.levels.specs.Levels.{lesser}
+use Rattle.levels.specs.between.Levels.{lesser}
 use Rattle.levels.proofs.Entries.{levels-long, entry-at, lesser-stands, lesser-few}
 use borrow.Author.Needs.{needs}
 use Rattle.levels.proofs.lesser_of.Statement.{statement}

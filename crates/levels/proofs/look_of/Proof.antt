@@ -4,7 +4,7 @@ use mathlib.Core.Path.{_∙_, ap}
 use native.Mathlib.Omega.{arith}
 use lib.ListN.{getD}
 use borrow.Author.Needs.{needs}
-use Rattle.levels.specs.Levels.{ahead}
+use Rattle.levels.specs.between.Levels.{ahead}
 use Rattle.levels.proofs.Entries.{levels-long, entry-at, ahead-stands, look-few}
 use Rattle.levels.proofs.look_of.Statement.{statement}
 use Rattle.levels.proofs.look_of.Tie as tie

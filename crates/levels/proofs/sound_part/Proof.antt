@@ -3,7 +3,7 @@ use mathlib.Core.Path.{_∙_, ap₂}
 use Prim.Native.Nat.{_-_}
 use lib.ListN.{take, drop}
 use Rattle.cells.specs.Cells.{boxOf, boxesAbove}
-use Rattle.cells.specs.Rows.{fours, pointsOf}
+use Rattle.cells.specs.between.Rows.{fours, pointsOf}
 use borrow.Author.Needs.{needs}
 use Rattle.levels.proofs.sound_part.Statement.{statement}
 use Rattle.levels.proofs.sound_part.Tie as tie

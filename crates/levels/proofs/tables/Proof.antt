@@ -1,6 +1,6 @@
 -- `levels::tables` meets its contract. Assumes nothing.
 use mathlib.Core.Path.{refl}
-use Rattle.levels.specs.Levels.{levels}
+use Rattle.levels.specs.between.Levels.{levels}
 use Rattle.levels.proofs.tables.Statement.{statement}
 use Rattle.levels.proofs.tables.Tie as tie
 

@@ -1,5 +1,5 @@
 -- `lines::put_number` meets its contract. Assumes nothing.
-use mathlib.Core.Path.{_≡_, refl}
+use mathlib.Core.Path.{refl}
 use native.Mathlib.Omega.{arith}
 use Rattle.base.proofs.Lay.{laid-more}
 use Rattle.lines.specs.Text.{spaced}

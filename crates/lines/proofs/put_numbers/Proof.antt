@@ -1,7 +1,7 @@
 -- `lines::put_numbers` meets its contract. The loop's invariant: the numbers passed are laid from `from` on.
 -- Assumes nothing.
-use mathlib.Core.Path.{_≡_, refl, sym, _∙_, ap}
-use Prim.Native.Nat.{_+_, _-_, _≤_, _<_}
+use mathlib.Core.Path.{_≡_, _∙_, ap}
+use Prim.Native.Nat.{_+_, _-_, _≤_}
 use native.Mathlib.Omega.{arith}
 use lib.ListN.{length, getD, take, length-append}
 use lib.Seq.{take-all}
@@ -9,7 +9,6 @@ use Rattle.base.specs.Laid.{Laid}
 use Rattle.base.proofs.Lay.{laid-none, laid-more, laid-as}
 use Rattle.lines.specs.Text.{spaced, numbers}
 use Rattle.lines.proofs.Numbers.{numbers-none, numbers-more, part-length}
-use borrow.Author.Needs.{needs}
 use Rattle.lines.proofs.put_numbers.Statement.{statement}
 use Rattle.lines.proofs.put_numbers.Tie as tie
 

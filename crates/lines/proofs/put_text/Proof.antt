@@ -1,6 +1,6 @@
 -- `lines::put_text` meets its contract. The loop's invariant: what it has passed of the text is laid from `from` on.
 -- Assumes nothing.
-use mathlib.Core.Path.{_≡_, refl}
+use mathlib.Core.Path.{refl}
 use Prim.Native.Nat.{_+_, _-_, _≤_, _<_}
 use native.Mathlib.Omega.{arith}
 use native.Mathlib.Numerals.{add-one}

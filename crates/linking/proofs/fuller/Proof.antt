@@ -5,11 +5,11 @@ use borrow.Author.Needs.{needs}
 use Rattle.linking.proofs.fuller.Statement.{statement}
 use Rattle.linking.proofs.fuller.Tie as tie
 
-row-of-requires : tie.Need-row-of-requires
-row-of-requires c κs = search needs
+neighbour-row-requires : tie.Need-neighbour-row-requires
+neighbour-row-requires c κs = search needs
 
-row-of-requires-2 : tie.Need-row-of-requires-2
-row-of-requires-2 c κs = search needs
+neighbour-row-requires-2 : tie.Need-neighbour-row-requires-2
+neighbour-row-requires-2 c κs = search needs
 
 returns : tie.Need-returns
 returns c = inr refl
@@ -18,4 +18,4 @@ returns-2 : tie.Need-returns-2
 returns-2 c = inl refl
 
 pub fuller-spec : {M : Type 1} → statement M
-fuller-spec = tie.close (tie.spec row-of-requires row-of-requires-2 returns returns-2)
+fuller-spec = tie.close (tie.spec neighbour-row-requires neighbour-row-requires-2 returns returns-2)

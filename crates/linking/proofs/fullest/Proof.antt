@@ -5,17 +5,16 @@ use mathlib.Core.Bool.{true}
 use Prim.Native.Nat.{_-_}
 use native.Mathlib.Omega.{arith}
 use lib.ListN.{length}
-use Rattle.marks.specs.Marks.{noted}
+use Rattle.facet_hints.specs.between.Hints.{hinted}
 use Rattle.reaching.proofs.Entries.{chosen-inside}
-use borrow.Author.Needs.{needs}
 use Rattle.linking.proofs.fullest.Statement.{statement}
 use Rattle.linking.proofs.fullest.Tie as tie
 
 abbrev Inv-loop : tie.InvT-loop
-Inv-loop n table marks u w from end part p₀ k₀ p k = (p .0 ≡ 65535) ⊎ (noted marks (u .0) (w .0) (p .0) ≡ true)
+Inv-loop n table hints u w from end part p₀ k₀ p k = (p .0 ≡ 65535) ⊎ (hinted hints (u .0) (w .0) (p .0) ≡ true)
 
 abbrev μ-loop : tie.MeasureT-loop
-μ-loop n table marks u w from end part p₀ k₀ p k = length part - k
+μ-loop n table hints u w from end part p₀ k₀ p k = length part - k
 
 shorter-requires : tie.Need-shorter-requires Inv-loop μ-loop
 shorter-requires c κs = c .before .before .pre .rowed
@@ -47,8 +46,8 @@ mul-t17 c = omega arith
 shared-slice-read-t21 : tie.Need-shared-slice-read-t21 Inv-loop μ-loop
 shared-slice-read-t21 c = omega arith
 
-is-noted-requires : tie.Need-is-noted-requires Inv-loop μ-loop
-is-noted-requires c κs = omega arith
+is-hinted-requires : tie.Need-is-hinted-requires Inv-loop μ-loop
+is-hinted-requires c κs = omega arith
 
 mul-t23 : tie.Need-mul-t23 Inv-loop μ-loop
 mul-t23 c = omega arith
@@ -69,7 +68,7 @@ loop-again : tie.Need-loop-again Inv-loop μ-loop
 loop-again c =
     let o = c .before .before .before .before .loop .inv in
     elim (c .if2 .came) [
-      | inl z ↦ elim (z .2 .ensures) [ inl q ↦ inr (rw (z .3 ∙ q) (sym (c .before .is-noted .ensures) ∙ z .0 .taken)) | inr q ↦ rw (z .3 ∙ q) o ]
+      | inl z ↦ elim (z .2 .ensures) [ inl q ↦ inr (rw (z .3 ∙ q) (sym (c .before .is-hinted .ensures) ∙ z .0 .taken)) | inr q ↦ rw (z .3 ∙ q) o ]
       | inr z ↦ rw (z .1) o
     ]
 
@@ -92,7 +91,7 @@ fullest-spec =
     loop-holds
     mul-t17
     shared-slice-read-t21
-    is-noted-requires
+    is-hinted-requires
     mul-t23
     shared-slice-read-t25
     fuller-requires

@@ -12,14 +12,14 @@ may-link-requires c κs = search needs
 returns : tie.Need-returns
 returns c = adds-none (λ y l. denied (c .before .may-link .ensures) (not-true _ (c .if1 .taken)) (l .links .may))
 
-is-noted-requires : tie.Need-is-noted-requires
-is-noted-requires c κs = search needs
+is-hinted-requires : tie.Need-is-hinted-requires
+is-hinted-requires c κs = search needs
 
 returns-2 : tie.Need-returns-2
-returns-2 c = adds-none (λ y l. denied (c .before .is-noted .ensures) (not-true _ (c .if2 .taken)) (l .links .facet .mark))
+returns-2 c = adds-none (λ y l. denied (c .before .is-hinted .ensures) (not-true _ (c .if2 .taken)) (l .links .facet .hint))
 
-is-noted-requires-2 : tie.Need-is-noted-requires-2
-is-noted-requires-2 c κs = search needs
+is-hinted-requires-2 : tie.Need-is-hinted-requires-2
+is-hinted-requires-2 c κs = search needs
 
 one-more-requires : tie.Need-one-more-requires
 one-more-requires c κs = search needs
@@ -28,7 +28,7 @@ returns-3 : tie.Need-returns-3
 returns-3 c = adds-of (c .one-more .ensures) (λ y l. l .same)
 
 returns-4 : tie.Need-returns-4
-returns-4 c = adds-none (λ y l. denied (c .before .is-noted2 .ensures) (c .if3 .left) (l .links .near .mark))
+returns-4 c = adds-none (λ y l. denied (c .before .is-hinted2 .ensures) (c .if3 .left) (l .links .near .hint))
 
 pub sole-at-spec : {M : Type 1} → statement M
 sole-at-spec =
@@ -36,9 +36,9 @@ sole-at-spec =
     (tie.spec
     may-link-requires
     returns
-    is-noted-requires
+    is-hinted-requires
     returns-2
-    is-noted-requires-2
+    is-hinted-requires-2
     one-more-requires
     returns-3
     returns-4)

@@ -2,17 +2,17 @@
 use Prim.Native.Nat.{_-_}
 use native.Mathlib.Omega.{arith}
 use lib.ListN.{length}
-use Rattle.reaching.specs.Reaching.{ByRow}
-use Rattle.linking.specs.Covers.{Only, LinkAt}
+use Rattle.reaching.specs.between.Reaching.{ByRow}
+use Rattle.linking.specs.between.Met.{AllMet, LinkAt}
 use Rattle.linking.proofs.Adding.{only-row-none, only-row-more, only-row-all}
 use Rattle.linking.proofs.sole_row.Statement.{statement}
 use Rattle.linking.proofs.sole_row.Tie as tie
 
 abbrev Inv-loop : tie.InvT-loop
-Inv-loop n table marks row e v s₀ k₀ s k = Only (ByRow (LinkAt n table marks e (v .0)) row k) s
+Inv-loop n table hints row e v s₀ k₀ s k = AllMet (ByRow (LinkAt n table hints e (v .0)) row k) s
 
 abbrev μ-loop : tie.MeasureT-loop
-μ-loop n table marks row e v s₀ k₀ s k = length row - k
+μ-loop n table hints row e v s₀ k₀ s k = length row - k
 
 loop-holds : tie.Need-loop-holds Inv-loop μ-loop
 loop-holds c = only-row-none

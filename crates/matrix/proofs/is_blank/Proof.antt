@@ -1,10 +1,10 @@
--- `is_blank` meets its contract. The loop's invariant: nothing met, no mark at the vertices passed. Assumes nothing.
-use mathlib.Core.Path.{_≡_, refl, sym, _∙_, ap}
-use Prim.Native.Nat.{ℕ, _+_, _*_, _-_, _≤_, _<_}
+-- `is_blank` meets its contract. The loop's invariant: nothing met, nothing at the vertices passed. Assumes nothing.
+use mathlib.Core.Path.{_≡_}
+use Prim.Native.Nat.{_-_, _≤_}
 use native.Mathlib.Omega.{arith}
 use borrow.Author.Needs.{needs}
 use borrow.Author.Tests.{eqb-true}
-use Rattle.matrix.specs.Matrix.{Blank}
+use Rattle.matrix.specs.between.Matrix.{Blank}
 use Rattle.matrix.proofs.Joining.{blank-none, blank-more}
 use Rattle.matrix.proofs.is_blank.Statement.{statement}
 use Rattle.matrix.proofs.is_blank.Tie as tie

@@ -1,5 +1,5 @@
 use borrow.Author.Tests.{eq-eqb, ne-eqb}
-use Rattle.matrix.specs.Matrix.{isJoined}
+use Rattle.matrix.specs.between.Matrix.{isJoined}
 use native.Mathlib.Omega.{arith}
 use borrow.Author.Needs.{needs}
 use Rattle.matrix.proofs.is_next.Statement.{statement}

@@ -1,5 +1,3 @@
-use mathlib.Core.Path.{_≡_}
-use lib.ListN.{length}
 use Rattle.matrix.proofs.Joining.{join-adds}
 use native.Mathlib.Omega.{arith}
 use borrow.Author.Needs.{needs}

@@ -1,15 +1,15 @@
 use borrow.Author.Needs.{needs}
 use native.Mathlib.Omega.{arith}
-use mathlib.Core.Path.{_≡_, refl, sym, _∙_, ap}
-use Prim.Native.Nat.{ℕ, _+_, _*_, _/_, _-_, _≤_, _<_}
+use mathlib.Core.Path.{_≡_}
+use Prim.Native.Nat.{_+_, _*_, _/_, _-_, _≤_}
 use lib.ListN.{length}
-use Rattle.matrix.specs.Matrix.{joinedBy, Joins}
+use Rattle.matrix.specs.between.Matrix.{joinedBy, AddsJoins}
 use Rattle.matrix.proofs.Joining.{adds-none, adds-as, adds-tet, near-none}
 use Rattle.matrix.proofs.join_all.Statement.{statement}
 use Rattle.matrix.proofs.join_all.Tie as tie
 
 abbrev Inv-loop : tie.InvT-loop
-Inv-loop m₀ labels t i₀ m i = (i ≤ t) × Joins m₀ m (joinedBy labels i)
+Inv-loop m₀ labels t i₀ m i = (i ≤ t) × AddsJoins m₀ m (joinedBy labels i)
 
 abbrev μ-loop : tie.MeasureT-loop
 μ-loop m₀ labels t i₀ m i = t - i

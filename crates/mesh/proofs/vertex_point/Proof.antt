@@ -4,8 +4,8 @@ use denote.Triple.Spec.{tripleOf}
 use denote.Triple.Table.{entered, cited}
 use Rattle.view.specs.View.{placeIn}
 use Rattle.space.proofs.Vertex as X
-use Rattle.view.proofs.Place as S
-use Rattle.view.proofs.Place.Laws as S′
+use Rattle.view.proofs.Located as S
+use Rattle.view.proofs.Located.Laws as S′
 use Rattle.view.proofs.point_of as step
 use Rattle.view.proofs.point_of.Symbol as step-def
 use Rattle.view.proofs.point_of.Met as step-thm

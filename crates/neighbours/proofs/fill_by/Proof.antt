@@ -1,11 +1,9 @@
 -- `fill_by` meets its contract: what the two rooms hold is the table. Assumes nothing.
-use mathlib.Core.Path.{_≡_, _∙_, ap}
+use mathlib.Core.Path.{_∙_, ap}
 use mathlib.Core.Bool.{cond}
-use mathlib.Core.List.{List, [], _++_}
-use Prim.Native.Nat.{ℕ, _+_, _<_, _≤_}
 use native.Mathlib.Omega.{arith}
-use lib.ListN.{length, take}
-use Rattle.rooms.specs.Rooms.{filledBy, laidBy}
+use lib.ListN.{length}
+use Rattle.rooms.specs.between.Rooms.{filledBy, laidBy}
 use Rattle.neighbours.proofs.Growing.{grown-size, grown-fits}
 use Rattle.neighbours.proofs.Whole.{table-grown, rows-short}
 use borrow.Author.Needs.{needs}

@@ -1,5 +1,5 @@
 -- `fill_if` meets its contract. Assumes nothing.
-use Prim.Native.Nat.{ℕ, _<_}
+use Prim.Native.Nat.{ℕ}
 use native.Mathlib.Omega.{arith}
 use lib.ListN.{length-replicate}
 use Rattle.matrix.proofs.Joining.{zeros-empty}

@@ -1,5 +1,5 @@
 use borrow.Author.Needs.{needs}
-use Rattle.matrix.specs.Matrix.{isJoined}
+use Rattle.matrix.specs.between.Matrix.{isJoined}
 use Rattle.neighbours.proofs.Rows.{part-blank}
 use Rattle.neighbours.proofs.Growing.{grown-none}
 use Rattle.neighbours.proofs.put_block.Statement.{statement}

@@ -1,12 +1,13 @@
--- `put_part` meets its contract. The loop's invariant: the room has grown by what the vertices passed give. Assumes nothing.
-use mathlib.Core.Path.{_≡_, refl, sym, _∙_, ap}
+-- `put_part` meets its contract. The loop's invariant: the room has grown by what the vertices passed give.
+-- Assumes nothing.
+use mathlib.Core.Path.{_≡_, sym, _∙_}
 use mathlib.Core.Logic.{⊎-elim}
-use Prim.Native.Nat.{ℕ, _+_, _-_, _≤_, _<_}
+use Prim.Native.Nat.{_+_, _-_, _≤_, _<_}
 use native.Mathlib.Omega.{arith}
 use borrow.Author.Needs.{needs}
 use lib.ListN.{length}
-use Rattle.neighbours.specs.Grown.{Grown, partOf}
-use Rattle.matrix.specs.Matrix.{isJoined}
+use Rattle.neighbours.specs.between.Grown.{Grown, partOf}
+use Rattle.matrix.specs.between.Matrix.{isJoined}
 use Rattle.neighbours.proofs.Rows.{part-none, part-yes, part-no, part-le}
 use Rattle.neighbours.proofs.Growing.{grown-none, grown-set, grown-past}
 use Rattle.neighbours.proofs.put_part.Statement.{statement}

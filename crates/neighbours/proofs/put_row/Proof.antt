@@ -1,19 +1,18 @@
 -- `put_row` meets its contract. The loop's invariant: the room has grown by the row up to v. Assumes nothing.
-use mathlib.Core.Path.{_≡_, refl, sym, _∙_, ap}
-use Prim.Native.Nat.{ℕ, _+_, _-_, _≤_, _<_}
+use mathlib.Core.Path.{_≡_, _∙_, ap}
+use Prim.Native.Nat.{_+_, _-_, _≤_}
 use native.Mathlib.Omega.{arith}
 use borrow.Author.Needs.{needs}
-use lib.ListN.{length}
-use Rattle.neighbours.specs.Table.{rowOf}
-use Rattle.neighbours.specs.Grown.{Grown}
-use Rattle.matrix.specs.Matrix.{isJoined}
+use Rattle.neighbours.specs.Table.{neighbourRow}
+use Rattle.neighbours.specs.between.Grown.{Grown}
+use Rattle.matrix.specs.between.Matrix.{isJoined}
 use Rattle.neighbours.proofs.Rows.{row-none, row-add, row-room}
 use Rattle.neighbours.proofs.Growing.{grown-none, grown-more}
 use Rattle.neighbours.proofs.put_row.Statement.{statement}
 use Rattle.neighbours.proofs.put_row.Tie as tie
 
 abbrev Inv-loop : tie.InvT-loop
-Inv-loop m n u rows₀ from at₀ v₀ rows at v = (v ≤ n) × Grown from at (rowOf (isJoined m) v (u .0)) rows₀ rows
+Inv-loop m n u rows₀ from at₀ v₀ rows at v = (v ≤ n) × Grown from at (neighbourRow (isJoined m) v (u .0)) rows₀ rows
 
 abbrev μ-loop : tie.MeasureT-loop
 μ-loop m n u rows₀ from at₀ v₀ rows at v = n - v
@@ -62,7 +61,7 @@ returns c =
     let l = c .before .before .before .before .before .loop in
     let f = isJoined (a .m .now) in
     let e : a .n ≡ l .v + (a .n - l .v) = omega arith in
-    grown-more (l .inv .1) (c .before .before .put-part .ensures) (ap (λ k. rowOf f k (a .u .0)) e ∙ row-add f (a .u .0) (l .v) (a .n - l .v))
+    grown-more (l .inv .1) (c .before .before .put-part .ensures) (ap (λ k. neighbourRow f k (a .u .0)) e ∙ row-add f (a .u .0) (l .v) (a .n - l .v))
 
 pub put-row-spec : {M : Type 1} → statement M
 put-row-spec =

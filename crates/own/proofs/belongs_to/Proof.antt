@@ -1,7 +1,7 @@
 -- `own::belongs_to` meets its contract. Assumes nothing.
 use mathlib.Core.Path.{ap}
 use Rattle.base.proofs.Bools.{and-fails, and-passes}
-use Rattle.cells.specs.Rows.{owns}
+use Rattle.cells.specs.between.Rows.{owns}
 use mathlib.Core.Bool.{not}
 use borrow.Author.Needs.{needs}
 use Rattle.own.proofs.belongs_to.Statement.{statement}

@@ -4,7 +4,7 @@ use Prim.Native.Nat.{_-_, _≤_}
 use lib.ListN.{length}
 use native.Mathlib.Omega.{arith}
 use borrow.Author.Needs.{needs}
-use Rattle.own.specs.Stamps.{Stamped}
+use Rattle.own.specs.between.Stamps.{Stamped}
 use Rattle.own.proofs.Stamps.{stamped-start, stamped-next}
 use Rattle.own.proofs.stamp.Statement.{statement}
 use Rattle.own.proofs.stamp.Tie as tie

@@ -14,8 +14,8 @@ may-link-requires c κs = search needs
 returns-2 : tie.Need-returns-2
 returns-2 c = least-stays (λ v b h. absurd (denied (c .before .may-link .ensures) (not-true _ (c .if2 .taken)) (b .may)))
 
-is-noted-requires : tie.Need-is-noted-requires
-is-noted-requires c κs = search needs
+is-hinted-requires : tie.Need-is-hinted-requires
+is-hinted-requires c κs = search needs
 
 facing-requires : tie.Need-facing-requires
 facing-requires c κs = search needs
@@ -25,7 +25,7 @@ returns-3 c = least-of (c .facing .ensures) (λ v b. b .facet)
 
 returns-4 : tie.Need-returns-4
 returns-4 c =
-    least-stays (λ v b h. absurd (denied (c .before .is-noted .ensures) (c .if3 .left) (b .near .mark)))
+    least-stays (λ v b h. absurd (denied (c .before .is-hinted .ensures) (c .if3 .left) (b .near .hint)))
 
 pub beside-spec : {M : Type 1} → statement M
 beside-spec =
@@ -34,7 +34,7 @@ beside-spec =
     returns
     may-link-requires
     returns-2
-    is-noted-requires
+    is-hinted-requires
     facing-requires
     returns-3
     returns-4)

@@ -2,16 +2,16 @@
 use Prim.Native.Nat.{_-_}
 use native.Mathlib.Omega.{arith}
 use lib.ListN.{length}
-use Rattle.reaching.specs.Reaching.{Least, ByRow, Links}
+use Rattle.reaching.specs.between.Reaching.{LeastAsked, ByRow, Links}
 use Rattle.reaching.proofs.Least.{row-none, row-more, row-all}
 use Rattle.reaching.proofs.beside_row.Statement.{statement}
 use Rattle.reaching.proofs.beside_row.Tie as tie
 
 abbrev Inv-loop : tie.InvT-loop
-Inv-loop n table marks row e lo best b₀ k₀ b k = Least (ByRow (Links n table marks e) row k) lo best b
+Inv-loop n table hints row e lo best b₀ k₀ b k = LeastAsked (ByRow (Links n table hints e) row k) lo best b
 
 abbrev μ-loop : tie.MeasureT-loop
-μ-loop n table marks row e lo best b₀ k₀ b k = length row - k
+μ-loop n table hints row e lo best b₀ k₀ b k = length row - k
 
 loop-holds : tie.Need-loop-holds Inv-loop μ-loop
 loop-holds c = row-none

@@ -14,8 +14,8 @@ returns c = search needs
 cast-t14 : tie.Need-cast-t14
 cast-t14 c = search needs
 
-is-noted-requires : tie.Need-is-noted-requires
-is-noted-requires c κs = search needs
+is-hinted-requires : tie.Need-is-hinted-requires
+is-hinted-requires c κs = search needs
 
 returns-2 : tie.Need-returns-2
 returns-2 c = search needs
@@ -48,7 +48,7 @@ beyond-spec =
     shorter-requires
     returns
     cast-t14
-    is-noted-requires
+    is-hinted-requires
     returns-2
     add-end
     mul-part

@@ -9,12 +9,12 @@ use Rattle.reaching.proofs.facing.Tie as tie
 shorter-requires : tie.Need-shorter-requires
 shorter-requires c κs = search needs
 
-next-noted-requires : tie.Need-next-noted-requires
-next-noted-requires c κs = search needs
+next-hinted-requires : tie.Need-next-hinted-requires
+next-hinted-requires c κs = search needs
 
 returns : tie.Need-returns
 returns c =
-    least-of (c .next-noted .ensures) (λ v f. f .mark)
+    least-of (c .next-hinted .ensures) (λ v f. f .hint)
 
 add-end : tie.Need-add-end
 add-end c = omega (arith, chosen-inside (c .before .before .before .shorter .ensures) (c .before .before .before .before .before .before .pre .0 .rowed))
@@ -22,36 +22,36 @@ add-end c = omega (arith, chosen-inside (c .before .before .before .shorter .ens
 lower-requires : tie.Need-lower-requires
 lower-requires c κs = search needs
 
-mul-noted-row : tie.Need-mul-noted-row
-mul-noted-row c = omega (arith, chosen-inside (c .before .before .before .before .shorter .ensures) (c .before .before .before .before .before .before .before .pre .0 .rowed))
+mul-hinted-row : tie.Need-mul-hinted-row
+mul-hinted-row c = omega (arith, chosen-inside (c .before .before .before .before .shorter .ensures) (c .before .before .before .before .before .before .before .pre .0 .rowed))
 
-sub-noted-row : tie.Need-sub-noted-row
-sub-noted-row c = search needs
+sub-hinted-row : tie.Need-sub-hinted-row
+sub-hinted-row c = search needs
 
-part-noted-row-start : tie.Need-part-noted-row-start
-part-noted-row-start c = search needs
+part-hinted-row-start : tie.Need-part-hinted-row-start
+part-hinted-row-start c = search needs
 
-part-noted-row-end : tie.Need-part-noted-row-end
-part-noted-row-end c = omega (arith, chosen-inside (c .before .before .before .before .shorter .ensures) (c .before .before .before .before .before .before .before .pre .0 .rowed))
+part-hinted-row-end : tie.Need-part-hinted-row-end
+part-hinted-row-end c = omega (arith, chosen-inside (c .before .before .before .before .shorter .ensures) (c .before .before .before .before .before .before .before .pre .0 .rowed))
 
-noted-row-requires : tie.Need-noted-row-requires
-noted-row-requires c κs = search needs
+hinted-row-requires : tie.Need-hinted-row-requires
+hinted-row-requires c κs = search needs
 
 returns-2 : tie.Need-returns-2
-returns-2 c = faces-least (c .before .before .before .before .before .before .shorter .ensures) (c .before .before .lower .ensures) (c .noted-row .ensures)
+returns-2 c = faces-least (c .before .before .before .before .before .before .shorter .ensures) (c .before .before .lower .ensures) (c .hinted-row .ensures)
 
 pub facing-spec : {M : Type 1} → statement M
 facing-spec =
     tie.close
     (tie.spec
     shorter-requires
-    next-noted-requires
+    next-hinted-requires
     returns
     add-end
     lower-requires
-    mul-noted-row
-    sub-noted-row
-    part-noted-row-start
-    part-noted-row-end
-    noted-row-requires
+    mul-hinted-row
+    sub-hinted-row
+    part-hinted-row-start
+    part-hinted-row-end
+    hinted-row-requires
     returns-2)

@@ -1,7 +1,7 @@
 -- `reaching::may_link` meets its contract. Assumes nothing.
 use borrow.Author.Tests.{eq-eqb, ne-eqb, le-leb, lt-leb}
 use native.Mathlib.Omega.{arith}
-use Rattle.reaching.specs.Reaching.{mayLink}
+use Rattle.reaching.specs.between.Reaching.{mayLink}
 use borrow.Author.Needs.{needs}
 use Rattle.reaching.proofs.may_link.Statement.{statement}
 use Rattle.reaching.proofs.may_link.Tie as tie

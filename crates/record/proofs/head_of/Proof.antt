@@ -2,7 +2,7 @@
 use mathlib.Core.Path.{refl}
 use borrow.Author.Tests.{eq-eqb, ne-eqb}
 use borrow.Author.Needs.{needs}
-use Rattle.record.specs.Marks.{headOf}
+use Rattle.record.specs.between.Heads.{headOf}
 use Rattle.record.proofs.head_of.Statement.{statement}
 use Rattle.record.proofs.head_of.Tie as tie
 

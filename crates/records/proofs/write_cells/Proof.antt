@@ -20,14 +20,14 @@ enum-known-far c = search needs
 is-any-left-requires : tie.Need-is-any-left-requires
 is-any-left-requires c κs = search needs
 
-filled-requires : tie.Need-filled-requires
-filled-requires c κs = search needs
+answer-full-requires : tie.Need-answer-full-requires
+answer-full-requires c κs = search needs
 
 enum-known-far-2 : tie.Need-enum-known-far-2
 enum-known-far-2 c = search needs
 
-filled-requires-2 : tie.Need-filled-requires-2
-filled-requires-2 c κs = search needs
+answer-full-requires-2 : tie.Need-answer-full-requires-2
+answer-full-requires-2 c κs = search needs
 
 enum-known-far-3 : tie.Need-enum-known-far-3
 enum-known-far-3 c = search needs
@@ -40,14 +40,14 @@ same-length c = search needs
 
 returns-2 : tie.Need-returns-2
 returns-2 c =
-    filled-full _ (c .before .before .before .before .before .before .before .write-up .ensures) (c .before .before .before .far .given .1) (omega (arith, c .before .before .before .before .before .before .before .before .before .if1 .left)) (c .before .is-any-left .ensures) (c .filled .ensures)
+    filled-full _ (c .before .before .before .before .before .before .before .write-up .ensures) (c .before .before .before .far .given .1) (omega (arith, c .before .before .before .before .before .before .before .before .before .if1 .left)) (c .before .is-any-left .ensures) (c .answer-full .ensures)
 
 same-length-2 : tie.Need-same-length-2
 same-length-2 c = search needs
 
 returns-3 : tie.Need-returns-3
 returns-3 c =
-    filled-end _ (c .before .before .before .before .before .before .write-up .ensures) (c .before .before .far2 .given .1) (c .filled2 .ensures)
+    filled-end _ (c .before .before .before .before .before .before .write-up .ensures) (c .before .before .far2 .given .1) (c .answer-full2 .ensures)
 
 same-length-3 : tie.Need-same-length-3
 same-length-3 c = search needs
@@ -65,9 +65,9 @@ write-cells-spec =
     write-up-requires
     enum-known-far
     is-any-left-requires
-    filled-requires
+    answer-full-requires
     enum-known-far-2
-    filled-requires-2
+    answer-full-requires-2
     enum-known-far-3
     refused-requires-2
     same-length

@@ -1,13 +1,11 @@
 -- The cells that the loop has written are those of `Come`, and the room holds their records. Assumes nothing.
-use Prim.Native.Nat.{_-_, _/_, _<_}
-use mathlib.Core.Path.{refl}
-use lib.ListN.{length}
+use Prim.Native.Nat.{_-_}
 use native.Mathlib.Omega.{arith}
 use borrow.Author.Tests.{not-true, not-false}
 use borrow.Author.Needs.{needs}
 use Rattle.space.specs.Arrays.{meshOf}
 use Rattle.cells.specs.Full.{fullList}
-use Rattle.portions.specs.Steps.{Come}
+use Rattle.portions.specs.between.Steps.{Come}
 use Rattle.portions.proofs.Loop.{come-start, come-most}
 use Rattle.rule.specs.Rule.{tetRule}
 use Rattle.rule.proofs.Full.{lawful}
@@ -19,11 +17,11 @@ use Rattle.records.proofs.write_up.Statement.{statement}
 use Rattle.records.proofs.write_up.Tie as tie
 
 abbrev Inv-loop : tie.InvT-loop
-Inv-loop tables coords labels parts n offsets entries marks table records₀ most i₀ k₀ records i k =
+Inv-loop tables coords labels parts n offsets entries hints table records₀ most i₀ k₀ records i k =
     Come tetRule (fullList (meshOf coords labels parts)) (markOf k₀) records₀ (markOf k) i records
 
 abbrev μ-loop : tie.MeasureT-loop
-μ-loop tables coords labels parts n offsets entries marks table records₀ most i₀ k₀ records i k = most - i
+μ-loop tables coords labels parts n offsets entries hints table records₀ most i₀ k₀ records i k = most - i
 
 loop-holds : tie.Need-loop-holds Inv-loop μ-loop
 loop-holds c = come-start tetRule _ (lawful _) _ _

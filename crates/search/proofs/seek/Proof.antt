@@ -22,8 +22,8 @@ mul-t22 c = search needs
 element-copy-out-t25 : tie.Need-element-copy-out-t25
 element-copy-out-t25 c = search needs
 
-row-of-requires : tie.Need-row-of-requires
-row-of-requires c κs = c .before .before .before .before .before .before .before .pre .1 .0 .lent .rowed
+neighbour-row-requires : tie.Need-neighbour-row-requires
+neighbour-row-requires c κs = c .before .before .before .before .before .before .before .pre .1 .0 .lent .rowed
 
 also-of-requires : tie.Need-also-of-requires
 also-of-requires c κs = search needs
@@ -34,8 +34,8 @@ mul-t22-2 c = search needs
 element-copy-out-t25-2 : tie.Need-element-copy-out-t25-2
 element-copy-out-t25-2 c = search needs
 
-row-of-requires-2 : tie.Need-row-of-requires-2
-row-of-requires-2 c κs = c .before .before .before .before .before .before .before .before .before .before .pre .1 .0 .lent .rowed
+neighbour-row-requires-2 : tie.Need-neighbour-row-requires-2
+neighbour-row-requires-2 c κs = c .before .before .before .before .before .before .before .before .before .before .pre .1 .0 .lent .rowed
 
 third-of-requires : tie.Need-third-of-requires
 third-of-requires c κs = search needs
@@ -46,8 +46,8 @@ mul-t22-3 c = search needs
 element-copy-out-t25-3 : tie.Need-element-copy-out-t25-3
 element-copy-out-t25-3 c = search needs
 
-row-of-requires-3 : tie.Need-row-of-requires-3
-row-of-requires-3 c κs = c .before .before .before .before .before .before .before .before .before .before .before .before .before .pre .1 .0 .lent .rowed
+neighbour-row-requires-3 : tie.Need-neighbour-row-requires-3
+neighbour-row-requires-3 c κs = c .before .before .before .before .before .before .before .before .before .before .before .before .before .pre .1 .0 .lent .rowed
 
 nearer-requires : tie.Need-nearer-requires
 nearer-requires c κs = let z = c .before .before .before .before .before .before .before .before .before .before .before .before .before .before in (z .pre .0, z .pre .1 .1 .row)
@@ -79,7 +79,7 @@ meet-rows-requires c κs =
     let r = y .before .before in
     let z = c .before .before .before .before .before .before .before .before .before .before .before .before .before .before .before .before .before .before .before in
     let g = z .pre .1 .0 in
-    (z .pre .0, (((g .close, g .lent .sized), z .pre .1 .1), two-served g _ _ _ (r .before .before .before .before .before .before .row-of .ensures) (r .before .before .before .row-of2 .ensures) (r .row-of3 .ensures) (y .before .nearer .ensures) (y .fewer .ensures) (c .partner .ensures)))
+    (z .pre .0, (((g .close, g .lent .sized), z .pre .1 .1), two-served g _ _ _ (r .before .before .before .before .before .before .neighbour-row .ensures) (r .before .before .before .neighbour-row2 .ensures) (r .neighbour-row3 .ensures) (y .before .nearer .ensures) (y .fewer .ensures) (c .partner .ensures)))
 
 returns-3 : tie.Need-returns-3
 returns-3 c =
@@ -91,7 +91,7 @@ returns-3 c =
     λ k ls ps o w.
     raised-skips (a .coords .now) ls ps o (c .before .before .before .before .before .before .before .before .before .before .before .before .before .before .before .rise .ensures)
     (meet-skips (z .pre .1 .0) o (omega (arith, l, z .pre .1 .1 .at))
-    (two-serve (z .pre .1 .0) o (c .before .before .before .before .before .before .before .before .before .before .before .before .before .before .before .before .if1 .left) (r .before .before .before .before .before .before .before .before .joined-of .ensures .0) (r .before .before .before .before .before .also-of .ensures .0) (r .before .before .third-of .ensures .0) (r .before .before .before .before .before .before .row-of .ensures) (r .before .before .before .row-of2 .ensures) (r .row-of3 .ensures) (y .before .nearer .ensures) (y .fewer .ensures) (c .before .partner .ensures))
+    (two-serve (z .pre .1 .0) o (c .before .before .before .before .before .before .before .before .before .before .before .before .before .before .before .before .if1 .left) (r .before .before .before .before .before .before .before .before .joined-of .ensures .0) (r .before .before .before .before .before .also-of .ensures .0) (r .before .before .third-of .ensures .0) (r .before .before .before .before .before .before .neighbour-row .ensures) (r .before .before .before .neighbour-row2 .ensures) (r .neighbour-row3 .ensures) (y .before .nearer .ensures) (y .fewer .ensures) (c .before .partner .ensures))
     (c .meet-rows .ensures) ls ps w)
 
 pub seek-spec : {M : Type 1} → statement M
@@ -103,15 +103,15 @@ seek-spec =
     joined-of-requires
     mul-t22
     element-copy-out-t25
-    row-of-requires
+    neighbour-row-requires
     also-of-requires
     mul-t22-2
     element-copy-out-t25-2
-    row-of-requires-2
+    neighbour-row-requires-2
     third-of-requires
     mul-t22-3
     element-copy-out-t25-3
-    row-of-requires-3
+    neighbour-row-requires-3
     nearer-requires
     fewer-requires
     looks-ahead-requires

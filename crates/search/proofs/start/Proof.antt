@@ -7,10 +7,10 @@ use Rattle.search.proofs.start.Statement.{statement}
 use Rattle.search.proofs.start.Tie as tie
 
 abbrev Inv-loop : tie.InvT-loop
-Inv-loop tables coords n marks table told end mark base d₀ d = d ≤ end
+Inv-loop tables coords n hints table told end mark base d₀ d = d ≤ end
 
 abbrev μ-loop : tie.MeasureT-loop
-μ-loop tables coords n marks table told end mark base d₀ d = end - d
+μ-loop tables coords n hints table told end mark base d₀ d = end - d
 
 returns : tie.Need-returns Inv-loop μ-loop
 returns c = let z = c .before .before .before .before in λ k o. begins-last (z .pre .1 .0) k (z .args .last .tuple) (o .corners)

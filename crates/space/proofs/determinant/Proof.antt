@@ -6,7 +6,7 @@ use mir.Syntax.{w64}
 use mir.Val.{toZ, ofZ}
 use mir.ValLaws.{toZ-ofZ}
 use borrow.Author.Needs.{needs}
-use Rattle.base.specs.Size.{Small}
+use Rattle.base.specs.between.Size.{Small}
 use Rattle.base.proofs.Signed.{back, back-small, sub-small, mul-small}
 use Rattle.space.proofs.determinant.Statement.{statement}
 use Rattle.space.proofs.determinant.Tie as tie

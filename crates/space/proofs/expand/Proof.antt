@@ -2,7 +2,7 @@
 use lib.IntN.{ℤ, _*ℤ_}
 use mir.Syntax.{w64}
 use mir.Val.{ofZ, toZ}
-use Rattle.base.specs.Size.{Small}
+use Rattle.base.specs.between.Size.{Small}
 use Rattle.base.proofs.Signed.{Holds, of-small, mul-fits, mul-holds, sub-fits, sub-holds, add-fits, add-holds}
 use Rattle.space.proofs.expand.Statement.{statement}
 use Rattle.space.proofs.expand.Tie as tie

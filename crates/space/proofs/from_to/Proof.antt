@@ -5,7 +5,7 @@ use mir.Syntax.{w64}
 use mir.Val.{SFits, toZ, ofZ}
 use mir.ValLaws.{toZ-ofZ}
 use borrow.Author.Needs.{needs}
-use Rattle.base.specs.Size.{Small}
+use Rattle.base.specs.between.Size.{Small}
 use Rattle.base.proofs.Signed.{back, back-small}
 use Rattle.space.proofs.from_to.Statement.{statement}
 use Rattle.space.proofs.from_to.Tie as tie

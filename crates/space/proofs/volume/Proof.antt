@@ -4,7 +4,8 @@ use mir.Syntax.{w64}
 use mir.ValLaws.{toZ-ofZ}
 use borrow.Author.Needs.{needs}
 use Rattle.space.specs.declared.Point.{Point}
-use Rattle.space.specs.Box.{from, box, Sized}
+use Rattle.space.specs.Box.{fromTo, box}
+use Rattle.space.specs.between.Working.{Sized}
 use Rattle.space.proofs.Near.{from-sized}
 use Rattle.space.proofs.volume.Statement.{statement}
 use Rattle.space.proofs.volume.Tie as tie
@@ -18,7 +19,7 @@ from-to-requires-2 c κs = search needs
 from-to-requires-3 : tie.Need-from-to-requires-3
 from-to-requires-3 c κs = search needs
 
-sized : {d : Point} (p q : Point) → Sized 50000 p → Sized 50000 q → d ≡ from p q → Sized 100000 d
+sized : {d : Point} (p q : Point) → Sized 50000 p → Sized 50000 q → d ≡ fromTo p q → Sized 100000 d
 sized p q s t e = rw e (from-sized p q s t)
 
 determinant-requires : tie.Need-determinant-requires

@@ -6,7 +6,7 @@ use mir.Val.{toZ, ofZ}
 use mir.Syntax.{w64}
 use mir.ValLaws.{toZ-ofZ}
 use lib.ListN.{getD}
-use Rattle.tets.specs.Tets.{boxAt, flat}
+use Rattle.tets.specs.Tets.{boxIn, flat}
 use Rattle.tets.proofs.Tests.{flat-is}
 use borrow.Author.Needs.{needs}
 use Rattle.tets.proofs.is_flat.Statement.{statement}
@@ -27,8 +27,8 @@ array-read-t17 c = search needs
 array-read-t21 : tie.Need-array-read-t21
 array-read-t21 c = search needs
 
-box-at-requires : tie.Need-box-at-requires
-box-at-requires c κs = search needs
+box-in-requires : tie.Need-box-in-requires
+box-in-requires c κs = search needs
 
 returns : tie.Need-returns
 unfolding flat
@@ -37,8 +37,8 @@ returns c =
     let zs = s .coords .now in
     let ls = s .labels .now in
     let e = s .e .0 in
-    let b = boxAt zs (getD ls (4 * e) 0) (getD ls (4 * e + 1) 0) (getD ls (4 * e + 2) 0) (getD ls (4 * e + 3) 0) in
-    let q : toZ w64 (ofZ w64 (c .box-at .result)) ≡ b = toZ-ofZ w64 _ (search needs) ∙ c .box-at .ensures ∙ ap (λ (l : List ℕ). boxAt zs (getD l 0 0) (getD l 1 0) (getD l 2 0) (getD l 3 0)) (c .before .corners .ensures) in
+    let b = boxIn zs (getD ls (4 * e) 0) (getD ls (4 * e + 1) 0) (getD ls (4 * e + 2) 0) (getD ls (4 * e + 3) 0) in
+    let q : toZ w64 (ofZ w64 (c .box-in .result)) ≡ b = toZ-ofZ w64 _ (search needs) ∙ c .box-in .ensures ∙ ap (λ (l : List ℕ). boxIn zs (getD l 0 0) (getD l 1 0) (getD l 2 0) (getD l 3 0)) (c .before .corners .ensures) in
     rw q (flat-is b)
 
 pub is-flat-spec : {M : Type 1} → statement M
@@ -50,5 +50,5 @@ is-flat-spec =
     array-read-t13
     array-read-t17
     array-read-t21
-    box-at-requires
+    box-in-requires
     returns)

@@ -1,7 +1,7 @@
 -- `turning::least_by` meets its contract. Assumes nothing.
 use mathlib.Core.Path.{sym, _∙_, ap}
 use borrow.Author.Tests.{not-true, not-false}
-use Rattle.templates.specs.Flat.{pairs}
+use Rattle.templates.specs.between.Flat.{pairs}
 use Rattle.turning.specs.Form.{formOf, formBy}
 use Rattle.turning.proofs.Last.{least-eight}
 use borrow.Author.Needs.{needs}

@@ -1,12 +1,11 @@
 -- `turning::least_turn` meets its contract. Assumes nothing.
-use mathlib.Core.Path.{_≡_, sym, _∙_, ap}
-use mathlib.Core.Bool.{cond}
-use mathlib.Core.List.{List, []}
-use Prim.Native.Nat.{ℕ, _+_, _-_, _*_}
-use lib.ListN.{take, drop}
+use mathlib.Core.Path.{_∙_, ap}
+use mathlib.Core.List.{[]}
+use Prim.Native.Nat.{_-_}
 use native.Mathlib.Omega.{arith}
-use Rattle.templates.specs.Tables.{at, eight}
-use Rattle.templates.specs.Flat.{rowOf, pairs}
+use Rattle.templates.specs.Tables.{at}
+use Rattle.templates.specs.between.Eight.{eight}
+use Rattle.templates.specs.between.Flat.{tableRow, pairs}
 use Rattle.least.specs.Least.{risesAt}
 use Rattle.turning.proofs.Last.{LastUp, last-start, last-took, last-done, row-ends, row-part}
 use Rattle.turning.proofs.least_turn.Statement.{statement}
@@ -14,7 +13,7 @@ use Rattle.turning.proofs.least_turn.Tie as tie
 
 abbrev Inv-loop : tie.InvT-loop
 Inv-loop c k n turns less best₀ i₀ best i =
-    LastUp (risesAt (pairs less)) (λ i. eight (at c (rowOf k turns i))) n (eight []) i best
+    LastUp (risesAt (pairs less)) (λ i. eight (at c (tableRow k turns i))) n (eight []) i best
 
 abbrev μ-loop : tie.MeasureT-loop
 μ-loop c k n turns less best₀ i₀ best i = n - i

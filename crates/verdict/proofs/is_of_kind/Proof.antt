@@ -4,7 +4,7 @@ use lib.ListN.{take, length-take}
 use Rattle.space.specs.Arrays.{meshOf}
 use Rattle.templates.specs.Tables.{templateOf}
 use Rattle.cells.specs.Cells.{isCell}
-use Rattle.verdict.specs.Judged.{Tells}
+use Rattle.verdict.specs.between.Judged.{Tells}
 use Rattle.verdict.proofs.Solid.{tells-cell}
 use Rattle.verdict.proofs.OfKind.{of-kind}
 use native.Mathlib.Omega.{arith}

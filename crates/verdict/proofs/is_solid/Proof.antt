@@ -4,7 +4,7 @@ use lib.Dec.{eqb}
 use Rattle.base.proofs.Bools.{first-fails, second-fails, third-decides}
 use Rattle.space.specs.Arrays.{meshOf}
 use Rattle.cells.specs.Cells.{isFilled, isOnePart}
-use Rattle.verdict.specs.Judged.{isSolid}
+use Rattle.verdict.specs.between.Judged.{isSolid}
 use Rattle.verdict.proofs.Tables.{tuple-is, sound-is, numbers-is, last-is}
 use Rattle.judging.proofs.Numbers.{found-as}
 use Rattle.verdict.proofs.Solid.{last-two, tells-no}

@@ -1,5 +1,4 @@
 -- `verdict::no` meets its contract. Assumes nothing.
-use mathlib.Core.Path.{refl}
 use borrow.Author.Needs.{needs}
 use Rattle.verdict.proofs.no.Statement.{statement}
 use Rattle.verdict.proofs.no.Tie as tie

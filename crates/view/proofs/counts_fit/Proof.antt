@@ -1,16 +1,16 @@
 -- `view::counts_fit` meets its contract. Assumes nothing.
 use borrow.Author.Tests.{le-leb, lt-leb}
-use Rattle.view.specs.View.{fits}
+use Rattle.view.specs.View.{fillsFile}
 use borrow.Author.Needs.{needs}
 use Rattle.view.proofs.counts_fit.Statement.{statement}
 use Rattle.view.proofs.counts_fit.Tie as tie
 
 returns : tie.Need-returns
-unfolding fits
+unfolding fillsFile
 returns c = rw (lt-leb _ _ (c .if1 .taken))
 
 returns-2 : tie.Need-returns-2
-unfolding fits
+unfolding fillsFile
 returns-2 c = rw (le-leb _ _ (c .before .if1 .left), lt-leb _ _ (c .if2 .taken))
 
 mul-result : tie.Need-mul-result
@@ -26,7 +26,7 @@ add-result-2 : tie.Need-add-result-2
 add-result-2 c = search needs
 
 returns-3 : tie.Need-returns-3
-unfolding fits
+unfolding fillsFile
 returns-3 c = rw (le-leb _ _ (c .before .if1 .left), le-leb _ _ (c .if2 .left))
 
 pub counts-fit-spec : {M : Type 1} → statement M

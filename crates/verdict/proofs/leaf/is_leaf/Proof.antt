@@ -8,7 +8,7 @@ use Rattle.templates.specs.Tables.{templateOf, at}
 use Rattle.least.specs.Least.{isLeast}
 use Rattle.order.proofs.Fronts.{letters-front}
 use Rattle.cells.specs.Cells.{isCell, numbersOf}
-use Rattle.rule.specs.Rule.{isLeaf, cellAt}
+use Rattle.rule.specs.between.Leaf.{isLeaf, cellAt}
 use Rattle.judging.proofs.Numbers.{found-as}
 use borrow.Author.Needs.{needs}
 use Rattle.verdict.proofs.leaf.is_leaf.Statement.{statement}

@@ -1,13 +1,13 @@
--- `verdict::rows::all_rows` meets its contract. Assumes nothing.
+-- `verdict::allRows::all_rows` meets its contract. Assumes nothing.
 use mathlib.Core.Path.{refl}
 use Rattle.base.specs.Lists.{keep, spread}
 use Rattle.cells.specs.Cells.{inside, corner3}
-use Rattle.verdict.specs.Laid.{laid, rows}
+use Rattle.verdict.specs.between.FlatTables.{flatTables, allRows}
 use Rattle.verdict.proofs.rows.all_rows.Statement.{statement}
 use Rattle.verdict.proofs.rows.all_rows.Tie as tie
 
 returns : tie.Need-returns
-unfolding rows laid spread inside keep corner3
+unfolding allRows flatTables spread inside keep corner3
 returns c = refl
 
 pub all-rows-spec : {M : Type 1} → statement M

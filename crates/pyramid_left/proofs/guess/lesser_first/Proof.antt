@@ -1,0 +1,16 @@
+-- `pyramid_left::guess::lesser_first` meets its contract. Assumes nothing.
+use borrow.Author.Tests.{lt-ltb, le-ltb}
+use Rattle.pyramid_left.specs.between.Guess.{lesserFirst}
+use Rattle.pyramid_left.proofs.guess.lesser_first.Statement.{statement}
+use Rattle.pyramid_left.proofs.guess.lesser_first.Tie as tie
+
+returns : tie.Need-returns
+unfolding lesserFirst
+returns c = rw (lt-ltb _ _ (c .if1 .taken))
+
+returns-2 : tie.Need-returns-2
+unfolding lesserFirst
+returns-2 c = rw (le-ltb _ _ (c .if1 .left))
+
+pub lesser-first-spec : {M : Type 1} → statement M
+lesser-first-spec = tie.close (tie.spec returns returns-2)
