@@ -2,10 +2,8 @@
 // a pyramid of the last or the first tetrahedron and one beside it tells it without a search.
 // Which are tried is a matter of speed alone:
 // at one end of the file the vertices mostly have great numbers, and so the pyramids come late in the list.
-mod guess;
-
-use guess::joint_of;
-use guess::pyramid;
+use joints::joint_of;
+use joints::pyramid;
 use space::Tet;
 use space::Vertex;
 use tets_around::around_row;

@@ -1,9 +1,9 @@
--- `pyramid_left::guess::across` meets its contract. Assumes nothing.
+-- `joints::across` meets its contract. Assumes nothing.
 use borrow.Author.Tests.{eq-eqb, ne-eqb}
-use Rattle.pyramid_left.specs.between.Guess.{acrossOf}
+use Rattle.joints.specs.between.Joints.{acrossOf}
 use borrow.Author.Needs.{needs}
-use Rattle.pyramid_left.proofs.guess.across.Statement.{statement}
-use Rattle.pyramid_left.proofs.guess.across.Tie as tie
+use Rattle.joints.proofs.across.Statement.{statement}
+use Rattle.joints.proofs.across.Tie as tie
 
 cast-at : tie.Need-cast-at
 cast-at c = search needs

@@ -1,11 +1,12 @@
-// Which pyramids of two tetrahedra to try: a guess from the labels alone.
+// Two tetrahedra with a facet in common, and the pyramids that they may be, from the labels alone: a guess, which is
+// tested elsewhere.
 use space::Tet;
 use space::Vertex;
 use space::tet_has;
 ghost use mathlib.Core.Path.{_≡_};
 ghost use Prim.Native.Nat.{_/_, _<_, _≤_};
 ghost use lib.ListN.{length};
-ghost use Rattle.pyramid_left.specs.between.Guess.{noJoint, loneOf, lesserFirst, leastFirst, acrossOf, jointOf, pyramidOf};
+ghost use Rattle.joints.specs.between.Joints.{noJoint, loneOf, lesserFirst, leastFirst, acrossOf, jointOf, pyramidOf};
 
 // Two tetrahedra with a facet in common, where there is one: its vertices x, y, z, and u and w on either side.
 pub struct Joint {

@@ -1,9 +1,9 @@
--- `pyramid_left::guess::least_first` meets its contract. Assumes nothing.
+-- `joints::least_first` meets its contract. Assumes nothing.
 use borrow.Author.Tests.{lt-ltb, le-ltb}
-use Rattle.pyramid_left.specs.between.Guess.{leastFirst}
+use Rattle.joints.specs.between.Joints.{leastFirst}
 use borrow.Author.Needs.{needs}
-use Rattle.pyramid_left.proofs.guess.least_first.Statement.{statement}
-use Rattle.pyramid_left.proofs.guess.least_first.Tie as tie
+use Rattle.joints.proofs.least_first.Statement.{statement}
+use Rattle.joints.proofs.least_first.Tie as tie
 
 lesser-first-requires : tie.Need-lesser-first-requires
 lesser-first-requires c κs = search needs

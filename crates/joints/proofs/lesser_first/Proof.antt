@@ -1,8 +1,8 @@
--- `pyramid_left::guess::lesser_first` meets its contract. Assumes nothing.
+-- `joints::lesser_first` meets its contract. Assumes nothing.
 use borrow.Author.Tests.{lt-ltb, le-ltb}
-use Rattle.pyramid_left.specs.between.Guess.{lesserFirst}
-use Rattle.pyramid_left.proofs.guess.lesser_first.Statement.{statement}
-use Rattle.pyramid_left.proofs.guess.lesser_first.Tie as tie
+use Rattle.joints.specs.between.Joints.{lesserFirst}
+use Rattle.joints.proofs.lesser_first.Statement.{statement}
+use Rattle.joints.proofs.lesser_first.Tie as tie
 
 returns : tie.Need-returns
 unfolding lesserFirst

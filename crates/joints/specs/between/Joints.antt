@@ -9,7 +9,7 @@ use lib.ListN.{getD}
 use Rattle.base.specs.Lists.{keep, isIn, upTo}
 use Rattle.space.specs.Arrays.{row4}
 use Rattle.space.specs.declared.Vertex.{Vertex}
-use Rattle.pyramid_left.specs.declared.guess.Joint.{Joint}
+use Rattle.joints.specs.declared.Joint.{Joint}
 
 -- ---- the pair
 

@@ -1,13 +1,13 @@
--- `pyramid_left::guess::lone` meets its contract. Assumes nothing.
+-- `joints::lone` meets its contract. Assumes nothing.
 use Prim.Native.Nat.{_-_}
 use mathlib.Core.Path.{sym, _∙_, ap}
 use mathlib.Core.Logic.{⊎-elim}
 use mathlib.Core.Bool.{not}
 use native.Mathlib.Omega.{arith}
-use Rattle.pyramid_left.specs.between.Guess.{lacks, loneOf}
-use Rattle.pyramid_left.proofs.Only.{Sole, sole-start, sole-past, sole-found, sole-twice, sole-done}
-use Rattle.pyramid_left.proofs.guess.lone.Statement.{statement}
-use Rattle.pyramid_left.proofs.guess.lone.Tie as tie
+use Rattle.joints.specs.between.Joints.{lacks, loneOf}
+use Rattle.joints.proofs.Only.{Sole, sole-start, sole-past, sole-found, sole-twice, sole-done}
+use Rattle.joints.proofs.lone.Statement.{statement}
+use Rattle.joints.proofs.lone.Tie as tie
 
 abbrev Inv-loop : tie.InvT-loop
 Inv-loop labels m at found₀ i₀ found i = Sole (lacks labels at (m .0)) i found

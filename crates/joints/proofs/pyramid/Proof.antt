@@ -1,9 +1,9 @@
--- `pyramid_left::guess::pyramid` meets its contract. Assumes nothing.
+-- `joints::pyramid` meets its contract. Assumes nothing.
 use borrow.Author.Tests.{eq-eqb, ne-eqb}
-use Rattle.pyramid_left.specs.between.Guess.{pyramidOf}
+use Rattle.joints.specs.between.Joints.{pyramidOf}
 use borrow.Author.Needs.{needs}
-use Rattle.pyramid_left.proofs.guess.pyramid.Statement.{statement}
-use Rattle.pyramid_left.proofs.guess.pyramid.Tie as tie
+use Rattle.joints.proofs.pyramid.Statement.{statement}
+use Rattle.joints.proofs.pyramid.Tie as tie
 
 least-first-requires : tie.Need-least-first-requires
 least-first-requires c κs = search needs

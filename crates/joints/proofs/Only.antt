@@ -10,7 +10,7 @@ use lib.Dec.{ltb}
 use Rattle.base.specs.Lists.{keep, from, upTo}
 use Rattle.base.proofs.Lists.{keep-append}
 use Rattle.base.proofs.Runs.{from-add, upTo-more}
-use Rattle.pyramid_left.specs.between.Guess.{only}
+use Rattle.joints.specs.between.Joints.{only}
 
 -- the place found; none where it is 4
 abbrev pub held : ℕ → List ℕ

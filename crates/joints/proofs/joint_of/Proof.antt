@@ -1,9 +1,9 @@
--- `pyramid_left::guess::joint_of` meets its contract. Assumes nothing.
+-- `joints::joint_of` meets its contract. Assumes nothing.
 use borrow.Author.Tests.{eq-eqb, ne-eqb}
-use Rattle.pyramid_left.specs.between.Guess.{jointOf}
+use Rattle.joints.specs.between.Joints.{jointOf}
 use borrow.Author.Needs.{needs}
-use Rattle.pyramid_left.proofs.guess.joint_of.Statement.{statement}
-use Rattle.pyramid_left.proofs.guess.joint_of.Tie as tie
+use Rattle.joints.proofs.joint_of.Statement.{statement}
+use Rattle.joints.proofs.joint_of.Tie as tie
 
 lone-requires : tie.Need-lone-requires
 lone-requires c κs = search needs
