@@ -1,4 +1,4 @@
--- Laws of the tests over lists of `specs/Base.antt`.
+-- Laws of the tests over lists of `specs/Lists.antt`.
 -- Assumes nothing.
 use mathlib.Core.Path.{_≡_, refl, _∙_, ap, fun-ext}
 use mathlib.Core.Bool.{Bool, true, false, cond, _&&_, _||_, false≢true}

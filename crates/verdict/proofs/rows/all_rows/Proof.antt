@@ -1,4 +1,4 @@
--- `verdict::allRows::all_rows` meets its contract. Assumes nothing.
+-- `verdict::rows::all_rows` meets its contract. Assumes nothing.
 use mathlib.Core.Path.{refl}
 use Rattle.base.specs.Lists.{keep, spread}
 use Rattle.cells.specs.Cells.{inside, corner3}
