@@ -1,0 +1,5 @@
+pub mod Strides
+pub mod Numbers
+pub mod Signs
+pub mod Lengths
+pub mod Front
