@@ -11,6 +11,8 @@ use Rattle.space.specs.declared.Point.{Point}
 use Rattle.space.specs.declared.Boxed.{Boxed}
 use Rattle.space.specs.declared.Boxed.the-variants.{Value, Refused}
 use Rattle.space.specs.Box.{boxed}
+use Rattle.packing.specs.declared.Written.{Written}
+use Rattle.packing.specs.declared.Written.the-variants.{Whole, Refused as Unwritten}
 use Rattle.records.specs.declared.Answer.{Answer}
 use Rattle.records.specs.declared.Answer.the-variants.{Refused as Barred, Given}
 use Rattle.record.specs.Marks.{markOf, nine}
@@ -18,6 +20,11 @@ use Rattle.records.specs.Marks.{answerNumber}
 use Rattle.portioning.specs.Portion.{Portioned}
 use Rattle.turning.specs.declared.Least.{Least}
 use Rattle.turning.specs.declared.Least.the-variants.{Form, Refused as NoForm}
+
+-- the length of the file that was written, or what stood there
+abbrev pub lengthLeft : Written → ℕ → ℕ
+lengthLeft (Whole k) old = k
+lengthLeft (Unwritten k) old = old
 
 -- the point of three numbers
 abbrev pub pointOf : List ℤ → Point

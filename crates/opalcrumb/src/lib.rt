@@ -2,6 +2,7 @@
 // A slice is a pointer and then a length. Every function answers 0, or the number of a refusal; what a refusal leaves
 // unchanged is said at each.
 use arrays::Checked;
+use packing::Written;
 use record::mark_of;
 use record::numbers_of;
 use records::Answer;
@@ -12,9 +13,11 @@ ghost use mathlib.Core.Path.{_≡_};
 ghost use lib.ListN.{length};
 ghost use Rattle.space.specs.Box.{boxNumber};
 ghost use Rattle.arrays.specs.Refusals.{refusal};
+ghost use Rattle.encoding.specs.File.{fileOf};
+ghost use Rattle.packing.specs.Packed.{packed, writtenNumber, roomAfter};
 ghost use Rattle.turning.specs.Form.{leastForm, leastNumber};
 ghost use Rattle.records.specs.Marks.{answerNumber};
-ghost use Rattle.opalcrumb.specs.Boundary.{pointOf, boxedBy, boxLeft, leastLeft, markLeft, countLeft, endLeft, Passed};
+ghost use Rattle.opalcrumb.specs.Boundary.{lengthLeft, pointOf, boxedBy, boxLeft, leastLeft, markLeft, countLeft, endLeft, Passed};
 
 // 0 for a sound mesh, else refusal 1 to 9.
 #[no_mangle]
@@ -28,6 +31,34 @@ pub extern "C" fn opalcrumb_check(file: &[u8]) -> u32
             tets: _,
         } => 0,
         Checked::Refused(number) => number as u32,
+    }
+}
+
+// 0 and the file that the lists make, at the front of the room, with its length; or 14, 1 to 9 or 15, with the room and
+// `written` as they were.
+#[no_mangle]
+pub extern "C" fn opalcrumb_write(
+    coordinates: &[i32],
+    numbers: &[u16],
+    parts: &[u16],
+    room: &mut [u8],
+    written: &mut usize,
+) -> u32
+    ensures answer { λ k. ⌜ k
+        ≡ writtenNumber (packed (now (coordinates .entry)) (now (numbers .entry)) (now (parts .entry)) (length (now (room .entry)))) ⌝ }
+    ensures room { λ k. ⌜ now (room .exit)
+        ≡ roomAfter (fileOf (now (coordinates .entry)) (now (numbers .entry)) (now (parts .entry)))
+        (packed (now (coordinates .entry)) (now (numbers .entry)) (now (parts .entry)) (length (now (room .entry)))) (now (room .entry)) ⌝ }
+    ensures written { λ k. ⌜ now (written .exit)
+        ≡ lengthLeft (packed (now (coordinates .entry)) (now (numbers .entry)) (now (parts .entry)) (length (now (room .entry)))) (now (written .entry)) ⌝ }
+{
+    let answer = packing::write(coordinates, numbers, parts, room);
+    match answer {
+        Written::Whole(size) => {
+            *written = size;
+            0
+        }
+        Written::Refused(number) => number as u32,
     }
 }
 
