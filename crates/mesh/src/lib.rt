@@ -10,7 +10,7 @@ use view::point_of;
 use view::tet_of;
 ghost use mathlib.Core.Path.{_≡_};
 ghost use Rattle.layout.specs.between.Framed.{Framed};
-ghost use Rattle.arrays.specs.Refusals.{checked};
+ghost use Rattle.arrays.specs.Refusals.{checked, refusal};
 ghost use Rattle.arrays.specs.between.Headed.{headed};
 ghost use Rattle.arrays.specs.declared.Checked.the-variants.{Accepted};
 ghost use Rattle.view.specs.View.{placeIn, tetraIn, partIn};
@@ -53,6 +53,20 @@ pub fn check(file: &[u8]) -> Checked
     match head {
         Checked::Accepted { vertices, tets } => check_parts(file, vertices, tets),
         Checked::Refused(number) => Checked::Refused(number),
+    }
+}
+
+// The number of that answer: 0 where the file is accepted.
+pub fn refusal_of(file: &[u8]) -> u8
+    ensures { λ r. ⌜ r ≡ refusal (now (file .entry)) ⌝ }
+{
+    let found = check(file);
+    match found {
+        Checked::Accepted {
+            vertices: _,
+            tets: _,
+        } => 0,
+        Checked::Refused(number) => number,
     }
 }
 

@@ -1,7 +1,6 @@
 // The library for programs in C and Rust: each function under its plain name, over numbers, slices and small arrays.
 // A slice is a pointer and then a length. Every function answers 0, or the number of a refusal; what a refusal leaves
 // unchanged is said at each.
-use arrays::Checked;
 use packing::Written;
 use record::mark_of;
 use record::numbers_of;
@@ -24,14 +23,7 @@ ghost use Rattle.opalcrumb.specs.Boundary.{lengthLeft, pointOf, boxedBy,
 pub extern "C" fn opalcrumb_check(file: &[u8]) -> u32
     ensures { λ r. ⌜ r ≡ refusal (now (file .entry)) ⌝ }
 {
-    let answer = mesh::check(file);
-    match answer {
-        Checked::Accepted {
-            vertices: _,
-            tets: _,
-        } => 0,
-        Checked::Refused(number) => number as u32,
-    }
+    mesh::refusal_of(file) as u32
 }
 
 // 0 and the file that the lists make, at the front of the room, with its length; or 14, 1 to 9 or 15, with the room and

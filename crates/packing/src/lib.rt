@@ -1,11 +1,9 @@
 // Packs lists of coordinates, vertex numbers and parts into a mesh file, in a room that the caller lends. The file is
 // made in an array of the greatest length and checked there; the room is touched only where the file is right and fits.
-use arrays::Checked;
 ghost use mathlib.Core.Path.{_≡_};
 ghost use Prim.Native.Nat.{_+_, _*_};
 ghost use lib.ListN.{length};
 ghost use lib.Dec.{ltb};
-ghost use Rattle.arrays.specs.Refusals.{refusal};
 ghost use Rattle.encoding.specs.File.{fileOf};
 ghost use Rattle.encoding.specs.between.Measured.{Measured};
 ghost use Rattle.packing.specs.Packed.{lengthsFit, packed, roomAfter};
@@ -48,33 +46,20 @@ fn is_long(c: usize, p: usize) -> bool
 
 // ---- the file into the room
 
-// Copies an accepted file to the front of the room, where it fits.
-fn store_accepted(file: &[u8], room: &mut [u8]) -> Written
-    requires { ⌜ refusal (now file) ≡ 0 ⌝ }
-    ensures answer { λ r. ⌜ r ≡ storedIn (now (file .entry)) (length (now (room .entry))) ⌝ }
-    ensures room { λ r. ⌜ now (room .exit) ≡ roomAfter (now (file .entry)) r (now (room .entry)) ⌝ }
-{
-    let size = file.len();
-    if room.len() < size {
-        return Written::Refused(15);
-    }
-    bytes::copy(file, room);
-    Written::Whole(size)
-}
-
-// Checks the file first.
+// Checks the file, and copies it to the front of the room where it is right and fits.
 fn store(file: &[u8], room: &mut [u8]) -> Written
     ensures answer { λ r. ⌜ r ≡ storedIn (now (file .entry)) (length (now (room .entry))) ⌝ }
     ensures room { λ r. ⌜ now (room .exit) ≡ roomAfter (now (file .entry)) r (now (room .entry)) ⌝ }
 {
-    let found = mesh::check(file);
-    match found {
-        Checked::Accepted {
-            vertices: _,
-            tets: _,
-        } => store_accepted(file, room),
-        Checked::Refused(number) => Written::Refused(number),
+    let number = mesh::refusal_of(file);
+    if number != 0 {
+        return Written::Refused(number);
     }
+    if room.len() < file.len() {
+        return Written::Refused(15);
+    }
+    bytes::copy(file, room);
+    Written::Whole(file.len())
 }
 
 // Makes the file in the lent slice, and stores it.

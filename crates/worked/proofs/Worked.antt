@@ -29,8 +29,10 @@ use Rattle.records.specs.Marks.{says}
 use Rattle.portioning.specs.Portion.{barred, portionBy, tableLeft, Portioned}
 use Rattle.portioning.proofs.Promised.{bars-file, bars-past}
 use Rattle.listing.proofs.File.{accepted-passed}
+use Rattle.encoding.specs.File.{u16Bytes, u32Bytes, bitsOf, i32Bytes, headerBytes, tetBytes, fileOf}
+use Rattle.packing.specs.Packed.{lengthsFit, writtenUnless, packed}
 use Rattle.worked.specs.Meshes.{meshP, meshC, listP, listC}
-use Rattle.worked.specs.Rows.{fileP, fileC, mixed, turned, tableP, tableC, Reply, left, calling, ask, forms, calls, checks, RowsHold, Worked}
+use Rattle.worked.specs.Rows.{fileP, fileC, mixed, turned, tableP, tableC, Reply, left, calling, ask, forms, calls, checks, packings, RowsHold, Worked}
 use Rattle.worked.proofs.Lists.{full-P, full-C, full-mixed, lists-hold}
 
 -- ---- the files' meshes and refusals
@@ -159,6 +161,10 @@ checks-hold : RowsHold checks
 unfolding ask reading
 checks-hold = refl
 
+packings-hold : RowsHold packings
+unfolding ask reading spread u16Bytes u32Bytes bitsOf i32Bytes headerBytes tetBytes fileOf lengthsFit writtenUnless packed
+packings-hold = refl
+
 -- one row and those after it
 infixr 5 _also_
 _also_ : {x y : Reply} {xs ys : List Reply} → x ≡ y → xs ≡ ys → x ∷ xs ≡ y ∷ ys
@@ -193,4 +199,4 @@ calls-hold =
     also refl
 
 pub worked : Worked
-worked = λ i. lists-hold i ++ forms-hold i ++ calls-hold i ++ checks-hold i
+worked = λ i. lists-hold i ++ forms-hold i ++ calls-hold i ++ checks-hold i ++ packings-hold i

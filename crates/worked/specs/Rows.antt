@@ -1,5 +1,6 @@
 -- The meshes worked by hand, in one table of questions and answers under one claim: their full lists and tuples that
--- fail; least forms; and from the bytes of their files the check's answer, calls of `portion` and boxes.
+-- fail; least forms; from the bytes of their files the check's answer, calls of `portion` and boxes; and from lists their
+-- files.
 -- Assumes nothing.
 use Prim.Native.Nat.{ℕ}
 use mathlib.Core.Path.{_≡_}
@@ -24,7 +25,12 @@ use Rattle.cells.specs.Full.{Cell, cell, cellsOf, fullList}
 use Rattle.portions.specs.Portions.{Answer, refused, given, records}
 use Rattle.rule.specs.Rule.{tetRule}
 use Rattle.portioning.specs.Portion.{portionBy, tableLeft, roomLeft}
+use Rattle.encoding.specs.File.{fileOf}
+use Rattle.packing.specs.Packed.{packed, roomAfter}
+use Rattle.packing.specs.declared.Written.{Written}
+use Rattle.packing.specs.declared.Written.the-variants.{Whole, Refused as Unwritten}
 use Rattle.worked.specs.Files.{u16, header, vertex, joins, file, minus, tent, cube, fan, lone}
+use Rattle.worked.specs.Lists.{coordsP, numbersP, coordsC, numbersC, coordsFan, still, noughts}
 use Rattle.worked.specs.Meshes.{meshP, meshP', meshC, meshC', cellC, listP, listP', listC}
 
 -- ---- the files
@@ -107,6 +113,8 @@ pub data Question : Type 0 where
   calling : (file mark table room : List ℕ) → Question
   -- the box of four vertices of a file
   boxing : (file : List ℕ) (a b c d : ℕ) → Question
+  -- these lists into this room
+  packing : (coordinates : List ℤ) (numbers parts room : List ℕ) → Question
 
 pub data Reply : Type 0 where
   listed : List Cell → Reply
@@ -118,6 +126,8 @@ pub data Reply : Type 0 where
   -- the answer, and what the table and the room hold afterwards
   left : Answer → (table room : List ℕ) → Reply
   boxed : ℤ → Reply
+  -- the answer, and what the room holds afterwards
+  packedTo : Written → (room : List ℕ) → Reply
 
 unfoldable pub counts : List ℕ → List Cell → List ℕ
 counts ks ds = map (λ k. length (keep (λ d. eqb (d .kind) k) ds)) ks
@@ -141,6 +151,7 @@ ask (calling f k table room) =
 ask (boxing f a b c d) =
     let p = point (decoded f) in
     boxed (box (p a) (p b) (p c) (p d))
+ask (packing cs ls ps room) = let a = packed cs ls ps (length room) in packedTo a (roomAfter (fileOf cs ls ps) a room)
 
 pub record Row : Type 0 where
   pub question : Question
@@ -312,10 +323,59 @@ calls =
     giving zeros [] 35 (given 0 true zeros) ∷
     []
 
+-- ---- lists packed
+
+-- the file in a room of so many bytes, and in one with more
+abbrev pub packs : List ℤ → List ℕ → List ℕ → List ℕ → ℕ → Row
+packs cs ls ps f more = row (packing cs ls ps (nines (length f) ++ nines more)) (packedTo (Whole (length f)) (f ++ nines more))
+
+-- nothing is written into so many bytes
+abbrev pub unpacked : List ℤ → List ℕ → List ℕ → ℕ → ℕ → Row
+unpacked cs ls ps room x = row (packing cs ls ps (nines room)) (packedTo (Unwritten x) (nines room))
+
+abbrev pub packings : List Row
+packings =
+    -- P in exactly its room, C with room for one byte more, and with its last tetrahedron in part 1
+    packs coordsP numbersP (noughts 2) fileP 0
+    ∷ packs coordsC (numbersC 0 5 2 7) (noughts 5) fileC 1
+    ∷ packs coordsC (numbersC 0 5 2 7) (0 ∷ 0 ∷ 0 ∷ 0 ∷ 1 ∷ []) mixed 0
+    -- no vertices and no tetrahedra; a vertex at the ends of the bounds
+    ∷ packs [] [] [] (file [] []) 0
+    ∷ packs (pos 50000 ∷ negsuc 0 ∷ negsuc 49999 ∷ []) [] [] (lone 50000 (minus 1) (minus 50000)) 2
+    -- 14: not in threes, not in fours, a part too few, a part too many
+    ∷ unpacked (pos 0 ∷ []) [] [] 40 14
+    ∷ unpacked coordsP (0 ∷ 1 ∷ 2 ∷ []) [] 104 14
+    ∷ unpacked coordsP numbersP (noughts 1) 104 14
+    ∷ unpacked coordsP numbersP (noughts 3) 104 14
+    -- 1: 26,650 bytes; 2: 513 vertices, and 2,049 tetrahedra
+    ∷ unpacked (still 1539) (noughts 8188) (noughts 2047) 40 1
+    ∷ unpacked (still 1539) [] [] 40 2
+    ∷ unpacked [] (noughts 8196) (noughts 2049) 40 2
+    -- 4: past the ends of the bounds, and the ends of 32 bits
+    ∷ unpacked (pos 0 ∷ pos 50001 ∷ pos 0 ∷ []) [] [] 36 4
+    ∷ unpacked (pos 0 ∷ negsuc 50000 ∷ pos 0 ∷ []) [] [] 36 4
+    ∷ unpacked (pos 2147483647 ∷ pos 0 ∷ negsuc 2147483647 ∷ []) [] [] 36 4
+    -- 5, 6, 7
+    ∷ unpacked coordsC (numbersC 0 5 2 8) (noughts 5) 170 5
+    ∷ unpacked coordsC (numbersC 0 5 2 5) (noughts 5) 170 6
+    ∷ unpacked coordsC (numbersC 0 2 5 7) (noughts 5) 170 7
+    -- 8, 9
+    ∷ unpacked coordsFan (0 ∷ 1 ∷ 2 ∷ 3 ∷ 2 ∷ 1 ∷ 0 ∷ 5 ∷ 1 ∷ 2 ∷ 0 ∷ 4 ∷ []) (noughts 3) 126 8
+    ∷ unpacked coordsFan (0 ∷ 1 ∷ 2 ∷ 3 ∷ 1 ∷ 2 ∷ 0 ∷ 4 ∷ []) (noughts 2) 116 9
+    -- 15: one byte short, and no room at all
+    ∷ unpacked coordsP numbersP (noughts 2) 103 15
+    ∷ unpacked [] [] [] 0 15
+    -- two faults: 14 before 4, 5 and 15; 1, 4 and 9 before 15
+    ∷ unpacked (pos 50001 ∷ []) (9 ∷ 9 ∷ 9 ∷ 9 ∷ []) [] 0 14
+    ∷ unpacked (still 1539) (noughts 8188) (noughts 2047) 0 1
+    ∷ unpacked (pos 0 ∷ pos 50001 ∷ pos 0 ∷ []) [] [] 0 4
+    ∷ unpacked coordsFan (0 ∷ 1 ∷ 2 ∷ 3 ∷ 1 ∷ 2 ∷ 0 ∷ 4 ∷ []) (noughts 2) 115 9
+    ∷ []
+
 -- ---- the table
 
 abbrev pub table : List Row
-table = lists ++ forms ++ calls ++ checks
+table = lists ++ forms ++ calls ++ checks ++ packings
 
 -- the definitions give the reply of each of these rows
 abbrev pub RowsHold : List Row → Type 0

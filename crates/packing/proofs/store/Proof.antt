@@ -1,44 +1,43 @@
 -- `packing::store` meets its contract. Assumes nothing.
-use mathlib.Core.Path.{refl, sym, _∙_}
-use lib.ListN.{length}
-use Rattle.arrays.proofs.Answers.{accepted-says, refused-says}
-use Rattle.packing.proofs.Ways.{stored-refused}
+use mathlib.Core.Path.{_≡_, refl, sym, _∙_, ap}
+use mathlib.Core.List.{_++_}
+use native.Mathlib.Omega.{arith}
+use lib.ListN.{length, drop}
+use lib.Seq.{take-all}
+use Rattle.packing.proofs.Ways.{stored-refused, stored-short, stored-whole}
 use borrow.Author.Needs.{needs}
 use Rattle.packing.proofs.store.Statement.{statement}
 use Rattle.packing.proofs.store.Tie as tie
 
-check-requires : tie.Need-check-requires
-check-requires c κs = search needs
+refusal-of-requires : tie.Need-refusal-of-requires
+refusal-of-requires c κs = search needs
 
-enum-told : tie.Need-enum-told
-enum-told c = search needs
+returns : tie.Need-returns
+returns c =
+    let n = c .before in
+    let a = n .before .before .before .args in
+    (stored-refused (a .file .now) (length (a .room .now)) (sym (n .refusal-of .ensures)) (omega arith), refl)
 
-store-accepted-requires : tie.Need-store-accepted-requires
-store-accepted-requires c κs = accepted-says _ (sym (c .before .before .before .check .ensures) ∙ c .before .enum-told .given .1) .0
+returns-2 : tie.Need-returns-2
+returns-2 c =
+    let n = c .before .before in
+    let a = n .before .before .before .args in
+    (stored-short (a .file .now) (length (a .room .now)) (omega (arith, n .refusal-of .ensures)) (omega arith), refl)
 
-enum-known-found : tie.Need-enum-known-found
-enum-known-found c = search needs
+copy-requires : tie.Need-copy-requires
+copy-requires c κs = search needs
 
 same-length : tie.Need-same-length
 same-length c = search needs
 
-returns : tie.Need-returns
-returns c = search needs
-
-returns-2 : tie.Need-returns-2
-returns-2 c =
-    let s = c .before .before .before .before .before .before in
-    let d = refused-says (s .args .file .now) (sym (c .before .before .before .check .ensures) ∙ c .before .found .given .1) in
-    (stored-refused (s .args .file .now) (length (s .args .room .now)) (d .0) (d .1), refl)
+returns-3 : tie.Need-returns-3
+returns-3 c =
+    let k = c .before .before in
+    let n = k .before .before .before .before in
+    let a = n .before .before .before .args in
+    let f = a .file .now in
+    let r = a .room .now in
+    (stored-whole f (length r) (omega (arith, n .refusal-of .ensures)) (omega arith), k .copy .ensures .1 ∙ ap (λ l. l ++ drop (length f) r) (take-all (length f) f (omega arith)))
 
 pub store-spec : {M : Type 1} → statement M
-store-spec =
-    tie.close
-    (tie.spec
-    check-requires
-    enum-told
-    store-accepted-requires
-    enum-known-found
-    same-length
-    returns
-    returns-2)
+store-spec = tie.close (tie.spec refusal-of-requires returns returns-2 copy-requires same-length returns-3)
