@@ -12,7 +12,7 @@ use Rattle.reading_lists.specs.declared.Spot.{Spot}
 use Rattle.reading_lists.specs.declared.Spot.the-variants.{Count, Coordinate, Label, Part, Beyond}
 use Rattle.reading_lists.specs.declared.Said.{Said}
 use Rattle.reading_lists.specs.declared.Said.the-variants.{Lists, Wrong}
-use Rattle.reading_lists.specs.Words.{endsWord, isDigit, formed, scaled}
+use Rattle.reading_lists.specs.Words.{endsWord, formed, sized}
 
 -- ---- the places of the numbers
 
@@ -29,7 +29,7 @@ unfoldable pub spotOf : Reader → Spot
 spotOf r =
     cond (ltb (r .count) 2) Count
     (cond (ltb (r .count) (2 + 3 * r .n)) (Coordinate (r .count - 2))
-    (cond (ltb (r .count) (wanted r)) (tetSpot (r .count - 2 - 3 * r .n)) Beyond))
+    (cond (ltb (r .count) (wanted r)) (tetSpot (r .count - (2 + 3 * r .n))) Beyond))
 
 -- the greatest size that a number may have there, below 0 or not: 32 bits, signed for a coordinate, or 16 bits
 abbrev pub most : Spot → Bool → ℕ
@@ -72,7 +72,7 @@ grown r b = record {
   comment = r .comment;
   form = formed (r .form) b;
   minus = r .minus || eqb b 45;
-  size = cond (isDigit b) (scaled (r .size) (b - 48)) (r .size);
+  size = sized (r .size) b;
   count = r .count;
   n = r .n;
   t = r .t;
@@ -111,11 +111,19 @@ faulty r k = record {
 unfoldable pub closed : Reader → Reader
 closed r = cond (eqb (r .form) 0) r (cond (eqb (wordFault r) 0) (counted r) (faulty r (wordFault r)))
 
--- behind a byte that stands in no word: a line end, the # of a comment, or another
+-- the line behind a byte; the last number of 64 bits stays
+unfoldable pub lineBehind : ℕ → ℕ → ℕ
+lineBehind line b = cond (eqb b 10) (min (line + 1) 18446744073709551615) line
+
+-- whether a comment stands behind a byte that stands in no word, in a comment or not: a line end, a # or another
+unfoldable pub commentBehind : Bool → ℕ → Bool
+commentBehind comment b = cond (eqb b 10) false (comment || eqb b 35)
+
+-- behind such a byte
 unfoldable pub passed : Reader → ℕ → Reader
 passed r b = record {
-  line = cond (eqb b 10) (min (r .line + 1) 18446744073709551615) (r .line);
-  comment = cond (eqb b 10) false (r .comment || eqb b 35);
+  line = lineBehind (r .line) b;
+  comment = commentBehind (r .comment) b;
   form = r .form;
   minus = r .minus;
   size = r .size;
@@ -170,6 +178,9 @@ pub record Reading : Type 0 where
   pub coordinates : List ℤ
   pub labels : List ℕ
   pub parts : List ℕ
+
+abbrev pub reading : Reader → List ℤ → List ℕ → List ℕ → Reading
+reading r cs ls ps = record { reader = r; coordinates = cs; labels = ls; parts = ps }
 
 -- with a byte more
 unfoldable pub read1 : ℕ → Reading → Reading

@@ -23,16 +23,16 @@ lineOf [] = 10 ∷ []
 lineOf (z ∷ zs) = signedText z ++ spread apart zs ++ 10 ∷ []
 
 -- the three coordinates of vertex v
-abbrev pub row3 : List ℤ → ℕ → List ℤ
-row3 cs v = getD cs (3 * v) (pos 0) ∷ getD cs (3 * v + 1) (pos 0) ∷ getD cs (3 * v + 2) (pos 0) ∷ []
+abbrev pub vertexRow : List ℤ → ℕ → List ℤ
+vertexRow cs v = getD cs (3 * v) (pos 0) ∷ getD cs (3 * v + 1) (pos 0) ∷ getD cs (3 * v + 2) (pos 0) ∷ []
 
 -- the four vertex numbers and the part of tetrahedron j
-abbrev pub row5 : List ℕ → List ℕ → ℕ → List ℤ
-row5 ls ps j = map pos (row4 ls j ++ getD ps j 0 ∷ [])
+abbrev pub tetRow : List ℕ → List ℕ → ℕ → List ℤ
+tetRow ls ps j = map pos (row4 ls j ++ getD ps j 0 ∷ [])
 
 -- the text of the lists
 unfoldable pub textOf : List ℤ → List ℕ → List ℕ → List ℕ
 textOf cs ls ps =
     lineOf (pos (length cs / 3) ∷ pos (length ps) ∷ [])
-    ++ spread (λ v. lineOf (row3 cs v)) (upTo (length cs / 3))
-    ++ spread (λ j. lineOf (row5 ls ps j)) (upTo (length ps))
+    ++ spread (λ v. lineOf (vertexRow cs v)) (upTo (length cs / 3))
+    ++ spread (λ j. lineOf (tetRow ls ps j)) (upTo (length ps))

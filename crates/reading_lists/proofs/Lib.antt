@@ -1,0 +1,4 @@
+pub mod Digit
+pub mod Fault
+pub mod Signs
+pub mod Pieces
