@@ -7,7 +7,7 @@ use lib.IntN.{ℤ, pos}
 use lib.Signed.{mag}
 use lib.ListN.{length, getD, drop}
 use Rattle.writing_lists.specs.Printed.{textOf}
-use Rattle.reading_lists.specs.Reading.{Reading, begun, readAll, saidBy}
+use Rattle.reading_lists.specs.Reading.{Reading, reading, begun, readAll, saidBy}
 use Rattle.reading_lists.specs.declared.Said.the-variants.{Lists}
 
 -- lists of n vertices and t tetrahedra, each entry of which fits its type
@@ -33,4 +33,13 @@ Undone =
     (cs cs₀ : List ℤ) (ls ls₀ ps ps₀ : List ℕ) (n t : ℕ)
     → Typed cs ls ps n t
     → length cs ≤ length cs₀ → length ls ≤ length ls₀ → length ps ≤ length ps₀
-    → Held cs cs₀ ls ls₀ ps ps₀ n t (readAll (textOf cs ls ps) (record { reader = begun; coordinates = cs₀; labels = ls₀; parts = ps₀ }))
+    → Held cs cs₀ ls ls₀ ps ps₀ n t (readAll (textOf cs ls ps) (reading begun cs₀ ls₀ ps₀))
+
+-- a text may come in pieces
+abbrev pub InPieces : Type 0
+InPieces = (a b : List ℕ) (s : Reading) → readAll (a ++ b) s ≡ readAll b (readAll a s)
+
+-- the laws of this crate
+pub record Texts : Type 0 where
+  pub pieces : InPieces
+  pub undone : Undone
