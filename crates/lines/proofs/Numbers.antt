@@ -4,6 +4,7 @@ use mathlib.Core.List.{List, [], _∷_, _++_, append-assoc, append-nil}
 use Prim.Native.Nat.{ℕ, _+_, _*_, _≤_, _<_}
 use native.Mathlib.Numerals.{add-one}
 use native.Mathlib.Omega.{arith}
+use native.Mathlib.Nat.{mul-suc}
 use Prim.Native.Nat.{min}
 use lib.ListN.{length, getD, take, drop, length-append, length-take}
 use Rattle.base.specs.Laid.{Laid}
@@ -18,25 +19,45 @@ pub spaced-length : (x : ℕ) → length (spaced x) ≤ 21
 unfolding spaced
 spaced-length x = omega (arith, decimal-length x)
 
-numbers-snoc : (xs : List ℕ) (x : ℕ) → numbers (xs ++ x ∷ []) ≡ numbers xs ++ spaced x
-unfolding numbers spread
-numbers-snoc [] x = append-nil (spaced x)
-numbers-snoc (y ∷ ys) x = ap (λ l. spaced y ++ l) (numbers-snoc ys x) ∙ sym (append-assoc (spaced y) (numbers ys) (spaced x))
+-- the texts of a list's elements, one behind the other
+module _ {A : Type 0} (f : A → List ℕ) where
+  spread-snoc : (xs : List A) (x : A) → spread f (xs ++ x ∷ []) ≡ spread f xs ++ f x
+  unfolding spread
+  spread-snoc [] x = append-nil (f x)
+  spread-snoc (y ∷ ys) x = ap (λ l. f y ++ l) (spread-snoc ys x) ∙ sym (append-assoc (f y) (spread f ys) (f x))
+
+  pub spread-more : (d : A) (l : List A) (i : ℕ) → i < length l → spread f (take (i + 1) l) ≡ spread f (take i l) ++ f (getD l i d)
+  spread-more d l i h = ap (spread f) (rw (add-one, take-suc l i d)) ∙ spread-snoc (take i l) (getD l i d)
+
+  pub spread-nil : spread f [] ≡ []
+  unfolding spread
+  spread-nil = refl
+
+  module _ (m : ℕ) (short : (x : A) → length (f x) ≤ m) where
+    pub spread-most : (l : List A) → length (spread f l) ≤ m * length l
+    unfolding spread
+    spread-most [] = omega arith
+    spread-most (x ∷ xs) =
+        rw mul-suc (omega (arith, length-append (f x) (spread f xs), short x, spread-most xs))
+
+    pub spread-part : (l : List A) (i : ℕ) → i ≤ length l → length (spread f (take i l)) ≤ m * i
+    spread-part l i h = rw (length-take-le i l h) at (spread-most (take i l))
 
 pub numbers-none : numbers [] ≡ []
-unfolding numbers spread
-numbers-none = refl
+unfolding numbers
+numbers-none = spread-nil spaced
 
 pub numbers-more : (l : List ℕ) (i : ℕ) → i < length l → numbers (take (i + 1) l) ≡ numbers (take i l) ++ spaced (getD l i 0)
-numbers-more l i h = ap numbers (rw (add-one, take-suc l i 0)) ∙ numbers-snoc (take i l) (getD l i 0)
+unfolding numbers
+numbers-more l i h = spread-more spaced 0 l i h
 
 pub numbers-length : (l : List ℕ) → length (numbers l) ≤ 21 * length l
-unfolding numbers spread
-numbers-length [] = omega arith
-numbers-length (x ∷ xs) = omega (arith, length-append (spaced x) (numbers xs), spaced-length x, numbers-length xs)
+unfolding numbers
+numbers-length l = spread-most spaced 21 spaced-length l
 
 pub part-length : (l : List ℕ) (i : ℕ) → i ≤ length l → length (numbers (take i l)) ≤ 21 * i
-part-length l i h = omega (arith, numbers-length (take i l), length-take-le i l h)
+unfolding numbers
+part-length l i h = spread-part spaced 21 spaced-length l i h
 
 pub most-length : (l : List ℕ) (k most : ℕ) → k ≤ most → length (numbers (take k l)) ≤ 21 * most
 most-length l k most h = omega (arith, numbers-length (take k l), length-take k l)

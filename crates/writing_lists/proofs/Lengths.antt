@@ -1,0 +1,34 @@
+-- How long the texts can be: 20 digits and a sign, and a space before the next number. Assumes nothing.
+use mathlib.Core.Path.{_≡_, refl, sym, ap}
+use mathlib.Core.List.{List, [], _∷_, _++_}
+use Prim.Native.Nat.{suc, _-_, _≤_}
+use native.Mathlib.Omega.{arith}
+use lib.IntN.{ℤ, pos, negsuc}
+use lib.ListN.{length, getD, take, drop, length-take, length-drop}
+use lib.Seq.{take-all}
+use Rattle.base.specs.Lists.{spread}
+use Rattle.lines.proofs.Digits.{decimal-length}
+use Rattle.writing_lists.specs.Printed.{signedText, apart, lineOf}
+
+pub signed-length : (z : ℤ) → length (signedText z) ≤ 21
+signed-length (pos n) = omega (arith, decimal-length n)
+signed-length (negsuc k) = omega (arith, decimal-length (suc k))
+
+pub apart-length : (z : ℤ) → length (apart z) ≤ 22
+apart-length z = omega (arith, signed-length z)
+
+-- ---- a line, by its first number and the others, as the code takes them
+
+pub line-none : (zs : List ℤ) → length zs ≡ 0 → lineOf zs ≡ 10 ∷ []
+unfolding lineOf
+line-none [] h = refl
+line-none (z ∷ zs) h = absurd (let e : suc (length zs) ≡ 0 = h in omega arith)
+
+pub line-some : (zs : List ℤ) → (length zs ≡ 0 → ⊥) → lineOf zs ≡ signedText (getD zs 0 (pos 0)) ++ spread apart (take (length zs - 1) (drop 1 zs)) ++ 10 ∷ []
+unfolding lineOf
+line-some [] h = absurd (h refl)
+line-some (z ∷ zs) h =
+    ap (λ l. signedText z ++ spread apart l ++ 10 ∷ []) (sym (take-all (suc (length zs) - 1) zs (omega arith)))
+
+pub others-length : (zs : List ℤ) → length (take (length zs - 1) (drop 1 zs)) ≡ length zs - 1
+others-length zs = omega (arith, length-take (length zs - 1) (drop 1 zs), length-drop 1 zs)
