@@ -1,26 +1,20 @@
--- The size of a number of 32 bits, as the code computes it with 64, and its text by that size. Assumes nothing.
+-- The size of a number of 64 bits, as the code computes it, and its text by that size. Assumes nothing.
 use mathlib.Core.Path.{_≡_, refl, _∙_, ap}
 use mathlib.Core.Bool.{true, false, false≢true}
 use mathlib.Core.List.{_∷_}
-use Prim.Native.Nat.{ℕ, suc, _<_, _≤_}
-use native.Mathlib.Nat.{zero-add}
+use Prim.Native.Nat.{ℕ, zero, suc, _-_, _<_, _≤_}
 use native.Mathlib.Omega.{arith}
 use borrow.Author.Tests.{ltb-true}
-use lib.IntN.{ℤ, pos, negsuc, natAbs, _-ℤ_}
+use lib.IntN.{ℤ, pos, negsuc, natAbs, negℤ, _+ℤ_, _-ℤ_, negℤ-negℤ, +ℤ-idl, +ℤ-one}
 use lib.Signed.{ltZ}
-use mir.Syntax.{w32, w64}
+use mir.Syntax.{w64}
 use mir.Val.{SFits, toZ, ofZ}
 use mir.ValLaws.{toZ-ofZ}
-use Rattle.base.specs.between.Size.{Small}
-use Rattle.base.proofs.Signed.{small-fits}
+use Rattle.base.proofs.Signed.{natAbs-neg, small-fits}
 use Rattle.lines.specs.Text.{decimal}
 use Rattle.writing_lists.specs.Printed.{signedText}
 
 -- ---- below 0 or not
-
-away : (z : ℤ) → ltZ z (pos 0) ≡ true → pos 0 -ℤ z ≡ pos (natAbs z)
-away (pos n) e = absurd (let h : n < 0 = ltb-true n 0 e in omega arith)
-away (negsuc k) e = ap pos (zero-add (suc k))
 
 itself : (z : ℤ) → ltZ z (pos 0) ≡ false → z ≡ pos (natAbs z)
 itself (pos n) e = refl
@@ -36,33 +30,49 @@ text-above (negsuc k) e = absurd (false≢true (cc))
 
 -- ---- what the locals hold
 
-pub small : (z : ℤ) → SFits w32 z → Small 2147483648 z
-small (pos n) f = record { small = omega (arith, f .sfits) }
-small (negsuc k) f = record { small = omega (arith, f .sfits) }
+up-one : (z : ℤ) → ltZ z (pos 0) ≡ true → z +ℤ pos 1 ≡ negℤ (pos (natAbs z - 1))
+up-one (pos n) e = absurd (let h : n < 0 = ltb-true n 0 e in omega arith)
+up-one (negsuc zero) e = +ℤ-one (negsuc zero)
+up-one (negsuc (suc k)) e = let d : suc k ≡ suc (suc k) - 1 = omega arith in +ℤ-one (negsuc (suc k)) ∙ ap (λ i. negℤ (pos i)) d
 
-module _ (z : ℤ) (f : SFits w32 z) where
-  pub narrow : toZ w32 (ofZ w32 z) ≡ z
-  narrow = toZ-ofZ w32 z f
+not-none : (z : ℤ) → ltZ z (pos 0) ≡ true → 0 < natAbs z
+not-none (pos n) e = absurd (let h : n < 0 = ltb-true n 0 e in omega arith)
+not-none (negsuc k) e = omega arith
 
-  pub wide-fits : SFits w64 (toZ w32 (ofZ w32 z))
-  wide-fits = rw narrow (small-fits (small z f) tt)
+pub size-most : (z : ℤ) → SFits w64 z → natAbs z ≤ 9223372036854775808
+size-most (pos n) f = omega (arith, f .sfits)
+size-most (negsuc k) f = omega (arith, f .sfits)
 
-  pub widened : toZ w64 (ofZ w64 (toZ w32 (ofZ w32 z))) ≡ z
-  widened = toZ-ofZ w64 _ wide-fits ∙ narrow
+module _ (z : ℤ) (f : SFits w64 z) where
+  pub kept : toZ w64 (ofZ w64 z) ≡ z
+  kept = toZ-ofZ w64 z f
 
-  away-fits : ltZ z (pos 0) ≡ true → SFits w64 (pos 0 -ℤ z)
-  away-fits e = rw (away z e) (small-fits {z = pos (natAbs z)} (record { small = small z f .small }) tt)
+  pub plus-is : ltZ (toZ w64 (ofZ w64 z)) (pos 0) ≡ false → toZ w64 (ofZ w64 z) ≡ pos (natAbs z)
+  plus-is e = kept ∙ itself z (rw kept at e)
 
-  -- where the test of the wide number was taken, and where it was left
-  module _ (e : ltZ (toZ w64 (ofZ w64 (toZ w32 (ofZ w32 z)))) (pos 0) ≡ true) where
-    pub minus-fits : SFits w64 (pos 0 -ℤ toZ w64 (ofZ w64 (toZ w32 (ofZ w32 z))))
-    minus-fits = rw widened (away-fits (rw widened at e))
+  module _ (e : ltZ (toZ w64 (ofZ w64 z)) (pos 0) ≡ true) where
+    below : ltZ z (pos 0) ≡ true
+    below = rw kept at e
 
-    pub minus-is : toZ w64 (ofZ w64 (pos 0 -ℤ toZ w64 (ofZ w64 (toZ w32 (ofZ w32 z))))) ≡ pos (natAbs z)
-    minus-is = toZ-ofZ w64 _ minus-fits ∙ rw widened (away z (rw widened at e))
+    pub some : 0 < natAbs z
+    some = not-none z below
 
-  pub plus-is : ltZ (toZ w64 (ofZ w64 (toZ w32 (ofZ w32 z)))) (pos 0) ≡ false → toZ w64 (ofZ w64 (toZ w32 (ofZ w32 z))) ≡ pos (natAbs z)
-  plus-is e = widened ∙ itself z (rw widened at e)
+    least : natAbs z - 1 ≤ 9223372036854775807
+    least = omega (arith, size-most z f)
 
-  pub size-most : natAbs z ≤ 2147483648
-  size-most = small z f .small
+    raised : toZ w64 (ofZ w64 z) +ℤ pos 1 ≡ negℤ (pos (natAbs z - 1))
+    raised = rw kept (up-one z below)
+
+    pub raise-fits : SFits w64 (toZ w64 (ofZ w64 z) +ℤ pos 1)
+    raise-fits = rw raised (small-fits {n = 9223372036854775807} (record { small = rw (natAbs-neg (pos (natAbs z - 1))) least }) tt)
+
+    turned : pos 0 -ℤ toZ w64 (ofZ w64 (toZ w64 (ofZ w64 z) +ℤ pos 1)) ≡ pos (natAbs z - 1)
+    turned =
+        ap (λ x. pos 0 -ℤ x) (toZ-ofZ w64 _ raise-fits ∙ raised)
+        ∙ ap (λ x. pos 0 +ℤ x) (negℤ-negℤ (pos (natAbs z - 1))) ∙ +ℤ-idl (pos (natAbs z - 1))
+
+    pub turn-fits : SFits w64 (pos 0 -ℤ toZ w64 (ofZ w64 (toZ w64 (ofZ w64 z) +ℤ pos 1)))
+    turn-fits = rw turned (small-fits {n = 9223372036854775807} (record { small = least }) tt)
+
+    pub minus-is : toZ w64 (ofZ w64 (pos 0 -ℤ toZ w64 (ofZ w64 (toZ w64 (ofZ w64 z) +ℤ pos 1)))) ≡ pos (natAbs z - 1)
+    minus-is = toZ-ofZ w64 _ turn-fits ∙ turned

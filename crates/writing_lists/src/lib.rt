@@ -9,20 +9,19 @@ ghost use Rattle.base.specs.Laid.{Laid};
 ghost use Rattle.base.specs.Lists.{spread};
 ghost use Rattle.writing_lists.specs.Printed.{signedText, apart, lineOf};
 
-// How far a number is from 0; of the least one no i32 says it.
-fn size_of(z: i32) -> u64
+// How far a number is from 0. The least one has no i64 above 0 of its size, so 1 is put aside.
+fn size_of(z: i64) -> u64
     ensures { λ r. ⌜ r ≡ natAbs z ⌝ }
 {
-    let wide = z as i64;
-    if wide < 0 {
-        (0 - wide) as u64
+    if z < 0 {
+        (0 - (z + 1)) as u64 + 1
     } else {
-        wide as u64
+        z as u64
     }
 }
 
 // Puts a number, with its sign below 0.
-fn put_signed(out: &mut [u8], from: usize, z: i32) -> usize
+fn put_signed(out: &mut [u8], from: usize, z: i64) -> usize
     requires { ⌜ from + 21 ≤ length (now out) ⌝ }
     ensures next { λ r. ⌜ r ≡ from + length (signedText z) ⌝ }
     ensures text { λ r. ⌜ Laid from (signedText z) (now (out .entry)) (now (out .exit)) ⌝ }
@@ -36,7 +35,7 @@ fn put_signed(out: &mut [u8], from: usize, z: i32) -> usize
 }
 
 // Puts a space and a number.
-fn put_next(out: &mut [u8], from: usize, z: i32) -> usize
+fn put_next(out: &mut [u8], from: usize, z: i64) -> usize
     requires { ⌜ from + 22 ≤ length (now out) ⌝ }
     ensures next { λ r. ⌜ r ≡ from + length (apart z) ⌝ }
     ensures text { λ r. ⌜ Laid from (apart z) (now (out .entry)) (now (out .exit)) ⌝ }
@@ -46,7 +45,7 @@ fn put_next(out: &mut [u8], from: usize, z: i32) -> usize
 }
 
 // Puts each number with a space before it.
-fn put_apart(out: &mut [u8], from: usize, numbers: &[i32]) -> usize
+fn put_apart(out: &mut [u8], from: usize, numbers: &[i64]) -> usize
     requires { ⌜ from + 22 * length (now numbers) ≤ length (now out) ⌝ }
     ensures next { λ r. ⌜ r ≡ from + length (spread apart (now (numbers .entry))) ⌝ }
     ensures text { λ r. ⌜ Laid from (spread apart (now (numbers .entry))) (now (out .entry)) (now (out .exit)) ⌝ }
@@ -61,7 +60,7 @@ fn put_apart(out: &mut [u8], from: usize, numbers: &[i32]) -> usize
 }
 
 // Puts a line of numbers from `from` on, and answers where the next goes; there is room for any numbers.
-pub fn put_line(out: &mut [u8], from: usize, numbers: &[i32]) -> usize
+pub fn put_line(out: &mut [u8], from: usize, numbers: &[i64]) -> usize
     requires { ⌜ from + 22 * length (now numbers) + 1 ≤ length (now out) ⌝ }
     ensures next { λ r. ⌜ r ≡ from + length (lineOf (now (numbers .entry))) ⌝ }
     ensures text { λ r. ⌜ Laid from (lineOf (now (numbers .entry))) (now (out .entry)) (now (out .exit)) ⌝ }

@@ -14,7 +14,7 @@ use Rattle.base.proofs.Lay.{laid-none, laid-as}
 use Rattle.lines.proofs.Numbers.{behind, spread-nil, spread-more, spread-part}
 use Rattle.writing_lists.specs.Printed.{apart}
 use Rattle.writing_lists.proofs.Lengths.{apart-length}
-use Rattle.writing_lists.proofs.Sizes.{narrow}
+use Rattle.writing_lists.proofs.Sizes.{kept}
 use Rattle.writing_lists.proofs.put_apart.Statement.{statement}
 use Rattle.writing_lists.proofs.put_apart.Tie as tie
 
@@ -56,7 +56,7 @@ loop-again c =
     let z = getD (a .numbers .now) (l .i) (pos 0) in
     let e =
     spread-more apart (pos 0) (a .numbers .now) (l .i) (omega arith)
-    ∙ ap (λ y. spread apart (take (l .i) (a .numbers .now)) ++ apart y) (sym (narrow z (search needs)))
+    ∙ ap (λ y. spread apart (take (l .i) (a .numbers .now)) ++ apart y) (sym (kept z (search needs)))
     in
     let b = behind (l .inv .1) (l .inv .2) (n .0) (n .1) e in
     (omega arith, b .0, b .1)

@@ -5,13 +5,13 @@ use Prim.Native.Nat.{_+_, _-_}
 use native.Mathlib.Omega.{arith}
 use lib.IntN.{pos}
 use lib.ListN.{length, getD, take, drop}
-use mir.Syntax.{w32}
+use mir.Syntax.{w64}
 use mir.Val.{toZ, ofZ}
 use Rattle.base.specs.Lists.{spread}
 use Rattle.base.proofs.Lay.{laid-as}
 use Rattle.lines.proofs.Numbers.{behind, spread-most}
 use Rattle.writing_lists.specs.Printed.{signedText, apart}
-use Rattle.writing_lists.proofs.Sizes.{narrow}
+use Rattle.writing_lists.proofs.Sizes.{kept}
 use Rattle.writing_lists.proofs.Lengths.{signed-length, apart-length, line-none, line-some, others-length}
 use borrow.Author.Needs.{needs}
 use Rattle.writing_lists.proofs.put_line.Statement.{statement}
@@ -52,7 +52,7 @@ put-apart-requires : tie.Need-put-apart-requires
 put-apart-requires c κs =
     let zs = c .before .before .before .before .before .before .before .before .before .args .numbers .now in
     let s = c .before .before .before .before .put-signed .ensures in
-    omega (arith, s .0, s .1 .same, signed-length (toZ w32 (ofZ w32 (getD zs 0 (pos 0)))), others-length zs)
+    omega (arith, s .0, s .1 .same, signed-length (toZ w64 (ofZ w64 (getD zs 0 (pos 0)))), others-length zs)
 
 slice-aggregate-put-text-2 : tie.Need-slice-aggregate-put-text-2
 slice-aggregate-put-text-2 c = search needs
@@ -64,7 +64,7 @@ put-text-requires-2 c κs =
     let t = c .before .before .before .before .put-apart .ensures in
     let o = others-length zs in
     let m = spread-most apart 22 apart-length (take (length zs - 1) (drop 1 zs)) in
-    omega (arith, s .0, s .1 .same, t .0, t .1 .same, signed-length (toZ w32 (ofZ w32 (getD zs 0 (pos 0)))))
+    omega (arith, s .0, s .1 .same, t .0, t .1 .same, signed-length (toZ w64 (ofZ w64 (getD zs 0 (pos 0)))))
 
 same-length-2 : tie.Need-same-length-2
 same-length-2 c = search needs
@@ -79,7 +79,7 @@ returns-2 c =
     let g = behind (s .0) (s .1) (t .0) (t .1) refl in
     behind (g .0) (g .1) (u .0) (u .1)
     (line-some zs (c .before .before .before .before .before .before .before .before .before .before .before .before .before .before .before .if1 .left)
-    ∙ ap (λ z. signedText z ++ spread apart (take (length zs - 1) (drop 1 zs)) ++ 10 ∷ []) (sym (narrow (getD zs 0 (pos 0)) (search needs))))
+    ∙ ap (λ z. signedText z ++ spread apart (take (length zs - 1) (drop 1 zs)) ++ 10 ∷ []) (sym (kept (getD zs 0 (pos 0)) (search needs))))
 
 pub put-line-spec : {M : Type 1} → statement M
 put-line-spec =

@@ -1,7 +1,7 @@
 -- `writing_lists::put_next` meets its contract. Assumes nothing.
 use mathlib.Core.Path.{sym, ap}
 use Rattle.writing_lists.specs.Printed.{apart}
-use Rattle.writing_lists.proofs.Sizes.{narrow}
+use Rattle.writing_lists.proofs.Sizes.{kept}
 use Rattle.lines.proofs.Numbers.{behind}
 use borrow.Author.Needs.{needs}
 use Rattle.writing_lists.proofs.put_next.Statement.{statement}
@@ -24,7 +24,7 @@ returns c =
     let s = c .before .before .before .before .before .before .before .before .before .before in
     let d = c .before .before .put-signed .ensures in
     let t = c .before .before .before .before .before .before .put-text .ensures in
-    behind (t .0) (t .1) (d .0) (d .1) (ap apart (sym (narrow (s .args .z) (s .fits .z))))
+    behind (t .0) (t .1) (d .0) (d .1) (ap apart (sym (kept (s .args .z) (s .fits .z))))
 
 pub put-next-spec : {M : Type 1} → statement M
 put-next-spec =

@@ -7,7 +7,7 @@ use lib.ListN.{length}
 use Rattle.base.proofs.Lay.{laid-as}
 use Rattle.lines.specs.Text.{decimal}
 use Rattle.lines.proofs.Numbers.{behind}
-use Rattle.writing_lists.proofs.Sizes.{narrow, text-below, text-above}
+use Rattle.writing_lists.proofs.Sizes.{kept, text-below, text-above}
 use borrow.Author.Needs.{needs}
 use Rattle.writing_lists.proofs.put_signed.Statement.{statement}
 use Rattle.writing_lists.proofs.put_signed.Tie as tie
@@ -30,7 +30,7 @@ same-length c = search needs
 returns : tie.Need-returns
 returns c =
     let s = c .before .before .before .before .before .before .before .before .before .before .before .before in
-    let n = narrow (s .args .z) (s .fits .z) in
+    let n = kept (s .args .z) (s .fits .z) in
     let d = c .before .before .put-decimal .ensures in
     let t = c .before .before .before .before .before .before .put-text .ensures in
     behind (t .0) (t .1) (d .0) (d .1)
@@ -46,7 +46,7 @@ same-length-2 c = search needs
 returns-2 : tie.Need-returns-2
 returns-2 c =
     let s = c .before .before .before .before .before .before .before in
-    let n = narrow (s .args .z) (s .fits .z) in
+    let n = kept (s .args .z) (s .fits .z) in
     let d = c .before .before .put-decimal2 .ensures in
     let e =
     ap decimal (c .before .before .before .before .before .size-of .ensures ∙ ap natAbs n)
