@@ -1,5 +1,7 @@
-// Lists the cells of the mesh on standard input, or a portion of them from a mark on.
+// Lists the cells of the mesh on standard input, or a portion of them from a mark on; or packs lists into a mesh file,
+// and takes a mesh file apart into lists.
 //
+// With the argument `pack` or `unpack`: see lists.rt.
 // With no argument: a line `mesh` with the counts, a line for each cell, and `end` with their number.
 // With ten, which are a mark (a kind and eight numbers) and how many cells there is room for:
 // the cells after the mark, at most that many, and then `end` with how many those were, where none remain,
@@ -8,6 +10,8 @@
 // What is listed is the promise of `listing::portion`, and what a line says that of `lines`;
 // here stand only the reading and the writing. A write that fails ends the program at once,
 // so that no last line follows a cell that was lost.
+mod lists;
+
 use arrays::Checked;
 use libc::STDERR_FILENO;
 use libc::STDIN_FILENO;
@@ -29,21 +33,21 @@ const ROOM: usize = BATCH * SIZE;
 
 // ---- writing; each line is put into a lent text of 65,536 bytes first
 
-// Writes the first `at` bytes of a text, and answers whether all were taken.
-fn show(out: &[u8], at: usize) -> bool
+// Writes the first `at` bytes of a text to standard output or standard error, and answers whether all were taken.
+fn show(fd: i32, out: &[u8], at: usize) -> bool
     requires { ⌜ at ≤ length (now out) ⌝ }
 {
-    io::write_all(STDOUT_FILENO, &out[..at])
+    io::write_all(fd, &out[..at])
 }
 
 // Writes a line of a word and a number.
-fn show_number(out: &mut [u8], word: &[u8], x: u64) -> bool
+fn show_number(fd: i32, out: &mut [u8], word: &[u8], x: u64) -> bool
     requires { ⌜ (length (now out) ≡ 65536) × (length (now word) ≤ 10) ⌝ }
 {
     let a = lines::put_text(out, 0, word);
     let b = lines::put_number(out, a, x);
     let c = lines::put_text(out, b, b"\n");
-    show(out, c)
+    show(fd, out, c)
 }
 
 // Writes a line of a word and some numbers.
@@ -53,7 +57,7 @@ fn show_numbers(out: &mut [u8], word: &[u8], numbers: &[u16]) -> bool
     let a = lines::put_text(out, 0, word);
     let b = lines::put_numbers(out, a, numbers);
     let c = lines::put_text(out, b, b"\n");
-    show(out, c)
+    show(STDOUT_FILENO, out, c)
 }
 
 // Writes the first line: how many vertices and tetrahedra.
@@ -84,7 +88,11 @@ fn flushed(out: &[u8], at: usize) -> usize
     if at <= 64000 {
         return at;
     }
-    if show(out, at) { 0 } else { 65537 }
+    if show(STDOUT_FILENO, out, at) {
+        0
+    } else {
+        65537
+    }
 }
 
 // Writes the lines of the first `count` records.
@@ -103,7 +111,7 @@ fn show_cells(out: &mut [u8], records: &[u16], count: usize) -> bool
         at = lines::put_cell(out, next, &records[from..end]);
         i += 1;
     }
-    show(out, at)
+    show(STDOUT_FILENO, out, at)
 }
 
 // ---- the listing
@@ -128,11 +136,11 @@ fn show_answer(
     match answer {
         Answer::Refused { number, written } => {
             if number != 12 {
-                show_number(out, b"refused", number as u64);
+                show_number(STDOUT_FILENO, out, b"refused", number as u64);
                 return Step::Done;
             }
             if given(out, file, records, before, written) {
-                show_number(out, b"refused", 12);
+                show_number(STDOUT_FILENO, out, b"refused", 12);
             }
             Step::Done
         }
@@ -185,7 +193,7 @@ fn closed(out: &mut [u8], done: u64, room: u64, none_remain: bool, mark: Mark) -
     requires { ⌜ length (now out) ≡ 65536 ⌝ }
 {
     if none_remain {
-        show_number(out, b"end", done);
+        show_number(STDOUT_FILENO, out, b"end", done);
         return Step::Done;
     }
     if room <= done {
@@ -333,7 +341,7 @@ fn corner(i: usize) -> u64
 fn complain() {
     io::write_all(
         STDERR_FILENO,
-        b"combine: no words, or ten: a kind, eight numbers and a room\n",
+        b"combine: no words, pack, unpack, or ten words: a kind, eight numbers and a room\n",
     );
 }
 
@@ -371,8 +379,46 @@ fn run(file: &[u8]) {
     complain();
 }
 
-fn main() {
+// Whether a text is this word.
+fn is_word(text: &[u8], word: &[u8]) -> bool {
+    if text.len() != word.len() {
+        return false;
+    }
+    let mut i = 0;
+    while i < text.len() {
+        if text[i] != word[i] {
+            return false;
+        }
+        i += 1;
+    }
+    true
+}
+
+// Whether the only argument is this word.
+fn is_asked(word: &[u8]) -> bool {
+    if os::arg_count() != 2 {
+        return false;
+    }
+    let mut buf = io::buffer();
+    let n = os::arg(1, &mut buf);
+    is_word(&buf[..n], word)
+}
+
+// What is done with the file on standard input.
+fn read_and_run() {
     let mut bytes = file_room();
     let n = io::read_full(STDIN_FILENO, &mut bytes);
-    run(&bytes[..n]);
+    if is_asked(b"unpack") {
+        lists::unpack(&bytes[..n]);
+    } else {
+        run(&bytes[..n]);
+    }
+}
+
+fn main() {
+    if is_asked(b"pack") {
+        lists::pack();
+    } else {
+        read_and_run();
+    }
 }
