@@ -297,25 +297,26 @@ impl Comparison<'_> {
     }
 }
 
+// Half of the changes are small ones, so that the later refusals are met too.
 fn change(dice: &mut Dice, lists: &mut Lists) {
-    let any = dice.next();
+    let (any, small) = (dice.next(), dice.one_in(2));
     let n = lists.vertices() as u16;
-    let other = if lists.numbers.is_empty() { 0 } else { lists.numbers[dice.below(lists.numbers.len())] };
-    let coordinates = [i32::MIN, i32::MAX, -50_001, -50_000, 50_000, 50_001, 0, 1 << 16, any as i32, any as i32 % 50_000];
-    let numbers = [0, n.wrapping_sub(1), n, n.wrapping_add(1), 256, 511, 512, 65_535, other, any as u16];
-    let parts = [0, 1, 255, 256, 65_535, any as u16];
     match dice.below(5) {
         0 | 1 if n > 0 => {
             let at = dice.below(lists.coordinates.len());
-            lists.coordinates[at] = coordinates[dice.below(coordinates.len())];
+            let far = [i32::MIN, i32::MAX, -50_001, -50_000, 50_000, 50_001, 1 << 16, any as i32];
+            let near = lists.coordinates[at].saturating_add(dice.between(-3, 3));
+            lists.coordinates[at] = if small { near } else { far[dice.below(far.len())] };
         }
         2 | 3 if !lists.numbers.is_empty() => {
             let at = dice.below(lists.numbers.len());
-            lists.numbers[at] = numbers[dice.below(numbers.len())];
+            let far = [0, n.wrapping_sub(1), n, n.wrapping_add(1), 256, 511, 512, 65_535, any as u16];
+            let other = lists.numbers[dice.below(lists.numbers.len())];
+            lists.numbers[at] = if small { other } else { far[dice.below(far.len())] };
         }
         _ if !lists.parts.is_empty() => {
             let at = dice.below(lists.parts.len());
-            lists.parts[at] = parts[dice.below(parts.len())];
+            lists.parts[at] = [0, 1, 255, 256, 65_535, any as u16][dice.below(6)];
         }
         _ => {}
     }
@@ -488,11 +489,17 @@ impl Comparison<'_> {
 
     fn good_texts(&mut self) -> usize {
         let mut count = 0;
-        for i in 0..28 {
+        for i in 0..26 {
             self.now.family = format!("pack-texts, good {}", i);
             let (lists, text) = self.some_text(i);
-            let file = pack(&lists);
-            count += self.text(&text.bytes(), file.ok().map(Told::done));
+            count += self.text(&text.bytes(), pack(&lists).ok().map(Told::done));
+        }
+        // the largest, so that words lie across the ends of any portion in which a text is read
+        for i in 2..5 {
+            self.now.family = format!("pack-texts, bounds number {}", i);
+            let file = mesh_of(family("bounds"), i, self.plan.seed);
+            let text = cut(&file).map(|lists| Text::of(&mut self.dice, &lists).bytes());
+            count += self.text(&text.unwrap_or_default(), Some(Told::done(file)));
         }
         count
     }
@@ -574,7 +581,8 @@ impl Comparison<'_> {
     fn long_texts(&mut self) -> usize {
         let mut count = 0;
         let lists = lists_of(&pyramid());
-        let long = [b"#".to_vec(), b"1 2\t".repeat(75_000), b"\n".to_vec()].concat();
+        let some = b"1 2\t#".repeat(60_000 + self.dice.below(1_000));
+        let long = [b"#".to_vec(), some, b"\n".to_vec()].concat();
         for i in 0..6 {
             self.now.family = format!("pack-texts, long {}", i);
             let mut text = Text::of(&mut self.dice, &lists);
