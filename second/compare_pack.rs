@@ -212,7 +212,7 @@ impl Comparison<'_> {
         let big = read(&mesh_of(family("bounds"), 2, self.plan.seed)).unwrap_or_else(|_| self.differ("no mesh at the limits"));
         let big = Lists::from(&big);
         let mut count = 0;
-        // two each of 26,648 and of 26,650 bytes, and the nearest that have fewer or more
+        // among them 512, 517 and 507 vertices with 26,648 bytes, and 513 and 508 with 26,650
         let sizes = [
             (512, 2_048), (511, 2_048), (512, 2_047), (513, 2_048), (512, 2_049), (513, 2_046), (513, 2_047), (511, 2_049), (511, 2_050),
             (517, 2_042), (507, 2_054), (508, 2_053), (512, 0), (513, 0), (0, 2_048), (0, 2_049), (0, 2_662), (0, 2_663), (2_218, 0),
@@ -251,35 +251,11 @@ impl Comparison<'_> {
             self.now.family = format!("pack-damaged, spoiled {}", i);
             let mut lists = self.some_mesh(i);
             if !lists.parts.is_empty() {
-                self.spoil(&mut lists, i / 8 % 5);
+                spoil(&mut self.dice, &mut lists, i / 8 % 5);
             }
             count += self.try_lists(&lists);
         }
         count
-    }
-
-    fn spoil(&mut self, lists: &mut Lists, how: usize) {
-        let dice = &mut self.dice;
-        let at = 4 * dice.below(lists.parts.len());
-        let four: Vec<u16> = lists.numbers[at..at + 4].to_vec();
-        let top = 3 * four[3] as usize;
-        let mut more = |lists: &mut Lists, four: &[u16]| {
-            lists.numbers.extend(four);
-            lists.parts.push(dice.next() as u16);
-        };
-        match how {
-            0 => lists.numbers.swap(at, at + 1 + (top % 3)),
-            1 => more(lists, &[four[1], four[2], four[0], four[3]]),
-            2 => (0..2).for_each(|_| more(lists, &four)),
-            _ => {
-                // a new vertex near the fourth one, and the tetrahedron on it, the right way round or not
-                let near: Vec<i32> = (0..3).map(|k| lists.coordinates[top + k] + [1, -1, 0][(at + k) % 3]).collect();
-                let new = lists.vertices() as u16;
-                lists.coordinates.extend(near);
-                let turned = if how == 3 { [four[0], four[1], four[2], new] } else { [four[0], four[2], four[1], new] };
-                more(lists, &turned);
-            }
-        }
     }
 
     // One to three entries changed, often to one at the end of a range.
@@ -294,6 +270,30 @@ impl Comparison<'_> {
             count += self.try_lists(&lists);
         }
         count
+    }
+}
+
+// Does one of these to some tetrahedron.
+fn spoil(dice: &mut Dice, lists: &mut Lists, how: usize) {
+    let at = 4 * dice.below(lists.parts.len());
+    let four: Vec<u16> = lists.numbers[at..at + 4].to_vec();
+    let top = 3 * four[3] as usize;
+    let mut more = |lists: &mut Lists, four: &[u16]| {
+        lists.numbers.extend(four);
+        lists.parts.push(dice.next() as u16);
+    };
+    match how {
+        0 => lists.numbers.swap(at, at + 1 + (top % 3)),
+        1 => more(lists, &[four[1], four[2], four[0], four[3]]),
+        2 => (0..2).for_each(|_| more(lists, &four)),
+        _ => {
+            // a new vertex near the fourth one, and the tetrahedron on it, the right way round or not
+            let near: Vec<i32> = (0..3).map(|k| lists.coordinates[top + k] + [1, -1, 0][(at + k) % 3]).collect();
+            let new = lists.vertices() as u16;
+            lists.coordinates.extend(near);
+            let turned = if how == 3 { [four[0], four[1], four[2], new] } else { [four[0], four[2], four[1], new] };
+            more(lists, &turned);
+        }
     }
 }
 
@@ -369,7 +369,7 @@ impl Text {
         Told::wrong(&Wrong { fault, line, before: word, wanted: self.wanted(word) })
     }
 
-    // The places of the counts, of the coordinates and of the numbers behind them.
+    // Where a fault may stand: at the counts, the coordinates, the numbers behind them, or anywhere.
     fn places(&self, fault: u32) -> std::ops::Range<usize> {
         let behind = 2 + 3 * self.counts[0] as usize;
         match fault {
@@ -399,15 +399,16 @@ impl Text {
     }
 
     // Only so many words, and what is then told.
-    fn cut(&mut self, left: usize) -> Told {
+    fn cut_to(&mut self, left: usize) -> Told {
         self.words.truncate(left);
         let line = 2 + line_ends(&self.bytes());
         Told::wrong(&Wrong { fault: TOO_FEW, line, before: left, wanted: self.wanted(left) })
     }
 }
 
-// Words that are bad for each fault: those nearest to good ones, and those that are good again modulo some power of 2.
 const HUGE: &str = "-999999999999999999999999999999999999999999999999999";
+
+// Words that are bad for each fault: those nearest to good ones, and those that are good again modulo some power of 2.
 const BAD: [(u32, &[&str]); 5] = [
     (TOO_MANY, &["0", "7", "x", "-", "-1", HUGE]),
     (NO_NUMBER, &["+1", "1.0", "0x10", "1e3", "--1", "-", "1-", "-x", "\0", "1,", "−1", "٣", "1;2", "\u{a0}"]),
@@ -519,7 +520,7 @@ impl Comparison<'_> {
         for left in [0, 1, 2, 25, 26, 50] {
             self.now.family = format!("pack-texts, {} words of 51", left);
             let mut text = Text::of(&mut self.dice, &lists);
-            let told = text.cut(left);
+            let told = text.cut_to(left);
             count += self.text(&text.bytes(), Some(told));
         }
         count
