@@ -12,9 +12,14 @@ _Noreturn void _exit(int status);
 
 enum { GUARD = 64, MOST_TABLE = 60000, MOST_RECORDS = OPALCRUMB_RECORD * 200000, MOST_FILE = 70000 };
 
+enum { MOST_ENTRIES = 200000, MOST_ROOM = 70000 };
+
 static uint8_t file[MOST_FILE + 2 * GUARD], copy[MOST_FILE + 2 * GUARD];
 static uint16_t table[MOST_TABLE + 2 * GUARD], records[MOST_RECORDS + 2 * GUARD];
 static uint32_t file_len;
+static int32_t coordinates[2][MOST_ENTRIES + 2 * GUARD];
+static uint16_t numbers[2][MOST_ENTRIES + 2 * GUARD], parts[2][MOST_ENTRIES + 2 * GUARD];
+static uint8_t room[MOST_ROOM + 2 * GUARD];
 
 static void get(void *to, size_t len) {
     char *at = to;
@@ -118,6 +123,50 @@ static void ask_portion(void) {
     put(records, 2 * (records_len + 2 * GUARD));
 }
 
+/* Takes a list of entries of some size between guards into a place, and once more beside it. */
+static void take_list(void *place, void *beside, size_t size, uint32_t len) {
+    uint8_t *at = place, *again = beside;
+    size_t before = GUARD * size, behind = before + len * size;
+    for (size_t i = 0; i < before; i++) {
+        at[i] = (uint8_t)(i * 37 + 1);
+        at[behind + i] = (uint8_t)(i * 53 + 2);
+    }
+    get(at + before, len * size);
+    for (size_t i = 0; i < behind + before; i++) again[i] = at[i];
+}
+
+static uint32_t list_kept(const void *place, const void *beside, size_t size, uint32_t len) {
+    const uint8_t *at = place, *again = beside;
+    for (size_t i = 0; i < (len + 2 * GUARD) * size; i++)
+        if (at[i] != again[i]) return 0;
+    return 1;
+}
+
+/* The lengths of the three lists, the lists, *written between two guards, the seed and the length of the room. */
+static void ask_write(void) {
+    uint32_t lens[3], seed, room_len, answer, kept;
+    size_t written[3];
+    get(lens, sizeof lens);
+    for (int i = 0; i < 3; i++)
+        if (lens[i] > MOST_ENTRIES) _exit(4);
+    take_list(coordinates[0], coordinates[1], 4, lens[0]);
+    take_list(numbers[0], numbers[1], 2, lens[1]);
+    take_list(parts[0], parts[1], 2, lens[2]);
+    get(written, sizeof written);
+    seed = get32();
+    room_len = get32();
+    if (room_len > MOST_ROOM) _exit(4);
+    for (uint32_t i = 0; i < room_len + 2 * GUARD; i++) room[i] = (uint8_t)((seed + i * 40503u) >> 8);
+    answer = opalcrumb_write(LENT(coordinates[0], lens[0]), lens[0], LENT(numbers[0], lens[1]), lens[1],
+                             LENT(parts[0], lens[2]), lens[2], LENT(room, room_len), room_len, &written[1]);
+    kept = list_kept(coordinates[0], coordinates[1], 4, lens[0]) && list_kept(numbers[0], numbers[1], 2, lens[1]) &&
+           list_kept(parts[0], parts[1], 2, lens[2]);
+    put(&answer, 4);
+    put(&kept, 4);
+    put(written, sizeof written);
+    put(room, room_len + 2 * GUARD);
+}
+
 int main(void) {
     for (;;) {
         switch (get32()) {
@@ -126,6 +175,7 @@ int main(void) {
         case 2: ask_box(); break;
         case 3: ask_least(); break;
         case 4: ask_portion(); break;
+        case 5: ask_write(); break;
         default: return 4;
         }
     }

@@ -15,7 +15,7 @@ use std::collections::VecDeque;
 use std::sync::atomic::{AtomicU64, Ordering};
 use std::sync::Mutex;
 
-const GUARD: usize = 64;
+pub const GUARD: usize = 64;
 const MOST_RECORDS: usize = RECORD * 200_000;
 
 pub struct Plan {
@@ -32,22 +32,22 @@ pub struct Plan {
 
 // What both sides were asked last, for the report of a difference.
 #[derive(Default)]
-struct Asked {
-    family: String,
-    question: String,
-    file: Vec<u8>,
+pub struct Asked {
+    pub family: String,
+    pub question: String,
+    pub file: Vec<u8>,
 }
 
 // One worker's part: its own process of the library, and what it has asked.
-struct Comparison<'a> {
-    plan: &'a Plan,
+pub struct Comparison<'a> {
+    pub plan: &'a Plan,
     library: Child,
     to: BufWriter<ChildStdin>,
     from: BufReader<ChildStdout>,
-    now: Asked,
-    meshes: u64,
+    pub now: Asked,
+    pub meshes: u64,
     questions: u64,
-    dice: Dice,
+    pub dice: Dice,
 }
 
 // The questions that were put so far, by all workers; and who may report a difference.
@@ -97,7 +97,7 @@ impl Comparison<'_> {
     }
 
     // Reports a difference and ends everything; the first worker to find one reports it.
-    fn differ(&self, what: &str) -> ! {
+    pub fn differ(&self, what: &str) -> ! {
         let _first = REPORT.lock();
         let _ = std::fs::create_dir_all(&self.plan.save);
         let mesh = self.plan.save.join("difference.mesh");
@@ -109,30 +109,30 @@ impl Comparison<'_> {
         std::process::exit(1);
     }
 
-    fn asked(&mut self, question: String) {
+    pub fn asked(&mut self, question: String) {
         self.questions += 1;
         ALIVE.fetch_add(1, Ordering::Relaxed);
         self.now.question = question;
     }
 
-    fn send(&mut self, numbers: &[u32]) {
+    pub fn send(&mut self, numbers: &[u32]) {
         for x in numbers {
             self.send_bytes(&x.to_le_bytes());
         }
     }
 
-    fn send_bytes(&mut self, bytes: &[u8]) {
+    pub fn send_bytes(&mut self, bytes: &[u8]) {
         if self.to.write_all(bytes).is_err() {
             self.differ("the library's program ended");
         }
     }
 
-    fn send_words(&mut self, numbers: &[u16]) {
+    pub fn send_words(&mut self, numbers: &[u16]) {
         let bytes: Vec<u8> = numbers.iter().flat_map(|x| x.to_le_bytes()).collect();
         self.send_bytes(&bytes);
     }
 
-    fn get(&mut self, len: usize) -> Vec<u8> {
+    pub fn get(&mut self, len: usize) -> Vec<u8> {
         let mut bytes = vec![0; len];
         if self.to.flush().is_err() || self.from.read_exact(&mut bytes).is_err() {
             self.differ("the library's program ended");
@@ -140,7 +140,7 @@ impl Comparison<'_> {
         bytes
     }
 
-    fn get_u32(&mut self) -> u32 {
+    pub fn get_u32(&mut self) -> u32 {
         let b = self.get(4);
         u32::from_le_bytes([b[0], b[1], b[2], b[3]])
     }
@@ -149,13 +149,13 @@ impl Comparison<'_> {
         self.get(2 * len).chunks(2).map(|b| u16::from_le_bytes([b[0], b[1]])).collect()
     }
 
-    fn set_file(&mut self, file: &[u8]) {
+    pub fn set_file(&mut self, file: &[u8]) {
         self.now.file = file.to_vec();
         self.send(&[0, file.len() as u32]);
         self.send_bytes(file);
     }
 
-    fn check(&mut self, want: u32) {
+    pub fn check(&mut self, want: u32) {
         self.asked("check".to_string());
         self.send(&[1]);
         let (got, kept) = (self.get_u32(), self.get_u32());
@@ -290,7 +290,7 @@ impl Comparison<'_> {
             extra.push(most.to_string());
         }
         self.asked(format!("the program {}", extra.join(" ")));
-        let got = run(&self.plan.program, &extra, &self.now.file);
+        let got = run(&self.plan.program, &extra, &self.now.file, Stdio::inherit());
         let want = text(listed, &from, most);
         if !got.status.success() {
             self.differ(&format!("the program ended with {}", got.status));
@@ -633,6 +633,10 @@ fn parts() -> Vec<Part> {
         Part::Other("least-forms", |c| c.least_forms()),
         Part::Other("kinds", |c| c.kinds()),
         Part::Other("refusals", |c| c.refusals()),
+        Part::Other("pack-damaged", |c| c.pack_damaged()),
+        Part::Other("pack-lists", |c| c.pack_lists()),
+        Part::Other("pack-texts", |c| c.pack_texts()),
+        Part::Other("pack-round", |c| c.pack_round()),
         Part::Other("truncated", |c| c.truncated()),
         Part::Other(LONGEST_PART, |c| c.damaged()),
     ];
@@ -697,12 +701,12 @@ pub fn compare(plan: &Plan) {
     println!("compared: {} meshes, {} questions, no difference", sums.meshes, sums.questions);
 }
 
-// Runs a program on a file. One that has read enough may leave the rest.
-fn run(words: &[String], extra: &[String], file: &[u8]) -> Output {
+// Runs a program on a file; `errors` takes its standard error. One that has read enough may leave the rest.
+pub fn run(words: &[String], extra: &[String], file: &[u8], errors: Stdio) -> Output {
     let cannot = |e: std::io::Error| -> ! { stop(&format!("cannot run {}: {}", words[0], e)) };
     let mut command = Command::new(&words[0]);
     command.args(&words[1..]).args(extra).env_remove("SECOND_SLIP");
-    let mut child = command.stdin(Stdio::piped()).stdout(Stdio::piped()).spawn().unwrap_or_else(|e| cannot(e));
+    let mut child = command.stdin(Stdio::piped()).stdout(Stdio::piped()).stderr(errors).spawn().unwrap_or_else(|e| cannot(e));
     let mut input = child.stdin.take().unwrap();
     let file = file.to_vec();
     let feed = std::thread::spawn(move || input.write_all(&file).is_ok());
@@ -719,7 +723,7 @@ pub fn agree(program: &[String], seed: u64) {
             let file = mesh_of(family, i, seed);
             if let Ok(mesh) = read(&file) {
                 let want = text(&Ok(list(mesh)), &START, usize::MAX);
-                if run(program, &[], &file).stdout != want.as_bytes() {
+                if run(program, &[], &file, Stdio::inherit()).stdout != want.as_bytes() {
                     println!("DIFFERENCE in family {} number {}", family.name, i);
                     std::process::exit(1);
                 }

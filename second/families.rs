@@ -281,9 +281,9 @@ pub const FAMILIES: &[Family] = &[
     Family { name: "noise", count: 100, make: noise },
 ];
 
-// One file for each refusal of a file, alone or with another: the faults do not hide each other, so the one
+// A mesh for each of the refusals 4 to 9, alone or with others: the faults do not hide each other, so the one
 // that is told first is the answer.
-pub fn with_faults(faults: &[u32]) -> Vec<u8> {
+pub fn faulty(faults: &[u32]) -> Draft {
     let mut d = cube();
     // tetrahedra apart from the cube, so that a fault has one of its own
     let base = d.points.len() as u16;
@@ -297,8 +297,9 @@ pub fn with_faults(faults: &[u32]) -> Vec<u8> {
             d.parts.push(7);
         };
         match fault {
+            // the cube keeps positive boxes, so that 4 stands alone
             4 => d.points[3][1] = 50_001,
-            5 => own([at(0), at(1), at(2), 600]),
+            5 => own([at(0), at(1), at(2), 65_535]),
             6 => own([at(0), at(1), at(2), at(1)]),
             7 => own([at(0), at(2), at(1), at(3)]),
             8 => {
@@ -313,8 +314,12 @@ pub fn with_faults(faults: &[u32]) -> Vec<u8> {
             _ => {}
         }
     }
-    // a cube whose vertex 3 is out of bounds keeps positive boxes, so that 4 stands alone
-    let mut file = d.bytes();
+    d
+}
+
+// The file of such a mesh, with the refusals 1 to 3 in its header.
+pub fn with_faults(faults: &[u32]) -> Vec<u8> {
+    let mut file = faulty(faults).bytes();
     let mut word = |i: usize, to: u32| file[4 * i..4 * i + 4].copy_from_slice(&to.to_le_bytes());
     for fault in faults {
         match fault {

@@ -1,8 +1,10 @@
-// An independent lister of the cells of a mesh, and the comparison with it.
+// An independent lister of the cells of a mesh, packer of mesh files, and the comparison with them.
 //
 //   second list < MESH            prints what the program prints
 //   second portion KIND A B C D E F G H K < MESH
 //                                 at most K cells after the mark, then the end or the mark reached
+//   second pack < TEXT            the mesh file of the lists in a text; `refused` or `wrong` on standard error
+//   second unpack < MESH          the lists of a mesh file as a text; `refused` on standard error
 //   second make FAMILY NUMBER [SEED]
 //                                 writes one mesh of a family to standard output
 //   second compare --ask ASK [--program PROGRAM] [--seed N] [--scale K] [--only FAMILY] [--save DIR] [--workers K]
@@ -17,9 +19,11 @@
 // table and no way of searching.
 mod cells;
 mod compare;
+mod compare_pack;
 mod families;
 mod make;
 mod mesh;
+mod pack;
 mod portion;
 mod slips;
 
@@ -36,13 +40,24 @@ fn print(bytes: &[u8]) {
     }
 }
 
-fn answer(mark: [u16; portion::MARK], most: usize) {
-    let mut file = Vec::new();
-    if std::io::stdin().read_to_end(&mut file).is_err() {
+fn input() -> Vec<u8> {
+    let mut bytes = Vec::new();
+    if std::io::stdin().read_to_end(&mut bytes).is_err() {
         stop("the input could not be read");
     }
-    let listed = mesh::read(&file).map(portion::list);
+    bytes
+}
+
+fn answer(mark: [u16; portion::MARK], most: usize) {
+    let listed = mesh::read(&input()).map(portion::list);
     print(portion::text(&listed, &mark, most).as_bytes());
+}
+
+// Tells as the program does, and ends with 0 done, 1 refused, 2 not lists.
+fn tell(told: pack::Told) {
+    print(&told.out);
+    eprint!("{}", told.err);
+    std::process::exit(told.status);
 }
 
 fn make(name: &str, which: usize, seed: u64) {
@@ -114,6 +129,8 @@ fn main() {
             }
             answer(mark, number::<usize>(&args[10]).max(1));
         }
+        "pack" if args.len() == 1 => tell(pack::tell_packed(&input())),
+        "unpack" if args.len() == 1 => tell(pack::tell_unpacked(&input())),
         "make" if args.len() == 3 || args.len() == 4 => {
             make(&args[1], number(&args[2]), args.get(3).map_or(1, |s| number(s)))
         }
@@ -122,6 +139,6 @@ fn main() {
         "timed" if args.len() == 2 => timed(&args[1]),
         "survey" if args.len() <= 2 => survey(args.get(1).map_or(1, |s| number(s))),
         "slips" => slips::NAMES.iter().for_each(|s| println!("{}: {}", s.0, s.1)),
-        _ => stop("usage: second list | portion | make | compare | agree | timed | survey | slips (see second/second.rs)"),
+        _ => stop("usage: second list | portion | pack | unpack | make | compare | agree | timed | survey | slips (see second/second.rs)"),
     }
 }

@@ -41,6 +41,15 @@ slips! {
     least_unused = "least-unused", "unused places of a least form are handed back as they came";
     least_twice = "least-twice", "equal corners in use are let pass";
     box_bound = "box-bound", "a box on points out of bounds is answered";
+    part_high_first = "part-high-first", "the bytes of a part are written highest first";
+    part_missing = "part-missing", "a part too few is let pass and written as 0";
+    many_before_long = "many-before-long", "too many vertices or tetrahedra are told before a file that is too long";
+    room_exact = "room-exact", "a room of exactly the file's length is refused";
+    room_first = "room-first", "a short room is told before the refusals of the file";
+    written_on_refusal = "written-on-refusal", "the length is told with a refusal too";
+    past_cleared = "past-cleared", "the byte behind the file is cleared";
+    comment_in_word = "comment-in-word", "a comment begins between words alone";
+    no_number_first = "no-number-first", "a word too many that is no number is told as no number";
 }
 
 static NOW: AtomicUsize = AtomicUsize::new(usize::MAX);
