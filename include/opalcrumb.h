@@ -42,6 +42,17 @@ enum {
 /* Is this a mesh? 0, or the first of the refusals 1 to 9 that the file deserves. */
 uint32_t opalcrumb_check(const uint8_t *file, size_t file_len);
 
+/* The mesh file of lists: coordinates, three a vertex; vertex numbers, four a tetrahedron; parts, one
+ * a tetrahedron. It is written to the front of room, *written is its length, and what lies behind it
+ * in the room stays as it was. OPALCRUMB_LONGEST_FILE bytes are room enough for every file.
+ *
+ * 14 where the coordinates are not in threes, the numbers not in fours or the parts not one for each
+ * four; then what opalcrumb_check answers to the file that the lists make, so 1 where it would be too
+ * long; then 15 where the room is shorter than the file. On a refusal nothing at all is written. */
+uint32_t opalcrumb_write(const int32_t *coordinates, size_t coordinates_len, const uint16_t *numbers,
+                         size_t numbers_len, const uint16_t *parts, size_t parts_len, uint8_t *room,
+                         size_t room_len, size_t *written);
+
 /* The box product of four points, that is the determinant of q - p, r - p, s - p: above 0 where
  * p q r s is a tetrahedron the right way round, 0 where the points lie in a plane. It is exact.
  * 4 where a coordinate is below -50,000 or above 50,000; *box is then as it was. */

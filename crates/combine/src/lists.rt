@@ -5,7 +5,6 @@
 // The answer goes to standard output. Where there is none, nothing is written there, and a line on standard error says
 // why: `refused` with its number, or `wrong` with a text's fault, its line, how many numbers stand before it and how
 // many are wanted; or `lost`, where the answer could not be written.
-use crate::file_room;
 use crate::flushed;
 use crate::show;
 use crate::show_number;
@@ -94,17 +93,24 @@ fn at_most(wanted: u64, there: usize) -> usize
     }
 }
 
-// Packs the lists of n vertices and t tetrahedra and writes the file.
-fn show_packed(out: &mut [u8], coordinates: &[i32], numbers: &[u16], parts: &[u16], n: u32, t: u32)
+// Packs the lists of n vertices and t tetrahedra into the room and writes the file.
+fn show_packed(
+    out: &mut [u8],
+    coordinates: &[i32],
+    numbers: &[u16],
+    parts: &[u16],
+    n: u32,
+    t: u32,
+    room: &mut [u8],
+)
     requires { ⌜ length (now out) ≡ 65536 ⌝ }
 {
     let c = at_most(3 * (n as u64), coordinates.len());
     let l = at_most(4 * (t as u64), numbers.len());
     let p = at_most(t as u64, parts.len());
-    let mut file = file_room();
-    let answer = packing::write(&coordinates[..c], &numbers[..l], &parts[..p], &mut file);
+    let answer = packing::write(&coordinates[..c], &numbers[..l], &parts[..p], room);
     match answer {
-        Written::Whole(size) => show_file(&file, size),
+        Written::Whole(size) => show_file(room, size),
         Written::Refused(number) => tell_refused(out, number),
     }
 }
@@ -137,12 +143,18 @@ fn part_room() -> [u16; TETS]
 }
 
 // The job `pack`, with lists lent for what is read.
-fn pack_by(out: &mut [u8], coordinates: &mut [i32], numbers: &mut [u16], parts: &mut [u16])
+fn pack_by(
+    out: &mut [u8],
+    coordinates: &mut [i32],
+    numbers: &mut [u16],
+    parts: &mut [u16],
+    room: &mut [u8],
+)
     requires { ⌜ length (now out) ≡ 65536 ⌝ }
 {
     let said = read_text(out, coordinates, numbers, parts);
     match said {
-        Said::Lists { n, t } => show_packed(out, coordinates, numbers, parts, n, t),
+        Said::Lists { n, t } => show_packed(out, coordinates, numbers, parts, n, t, room),
         Said::Wrong {
             fault,
             line,
@@ -152,12 +164,13 @@ fn pack_by(out: &mut [u8], coordinates: &mut [i32], numbers: &mut [u16], parts: 
     }
 }
 
-pub fn pack() {
-    let mut text = io::large_buffer();
+pub fn pack(out: &mut [u8], room: &mut [u8])
+    requires { ⌜ length (now out) ≡ 65536 ⌝ }
+{
     let mut coordinates = coordinate_room();
     let mut numbers = number_room();
     let mut parts = part_room();
-    pack_by(&mut text, &mut coordinates, &mut numbers, &mut parts);
+    pack_by(out, &mut coordinates, &mut numbers, &mut parts, room);
 }
 
 // ---- a mesh file to lists
@@ -247,11 +260,12 @@ fn show_lists(out: &mut [u8], file: &[u8], n: usize, t: usize)
 }
 
 // The job `unpack`, of the file that was read.
-pub fn unpack(file: &[u8]) {
-    let mut text = io::large_buffer();
+pub fn unpack(out: &mut [u8], file: &[u8])
+    requires { ⌜ length (now out) ≡ 65536 ⌝ }
+{
     let found = mesh::check(file);
     match found {
-        Checked::Accepted { vertices, tets } => show_lists(&mut text, file, vertices, tets),
-        Checked::Refused(number) => tell_refused(&mut text, number),
+        Checked::Accepted { vertices, tets } => show_lists(out, file, vertices, tets),
+        Checked::Refused(number) => tell_refused(out, number),
     }
 }

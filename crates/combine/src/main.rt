@@ -270,11 +270,12 @@ fn record_room() -> [u16; ROOM]
     [0; ROOM]
 }
 
-fn list_from(file: &[u8], from: Mark, room: u64) {
-    let mut text = io::large_buffer();
+fn list_from(text: &mut [u8], file: &[u8], from: Mark, room: u64)
+    requires { ⌜ length (now text) ≡ 65536 ⌝ }
+{
     let mut table = table_room();
     let mut records = record_room();
-    list(&mut text, file, &mut table, &mut records, from, room);
+    list(text, file, &mut table, &mut records, from, room);
 }
 
 // ---- arguments
@@ -346,7 +347,9 @@ fn complain() {
 }
 
 // The portion that the arguments ask for.
-fn list_asked(file: &[u8]) {
+fn list_asked(text: &mut [u8], file: &[u8])
+    requires { ⌜ length (now text) ≡ 65536 ⌝ }
+{
     let w = number_at(10, 4294967295);
     let Word::Number(room) = w else {
         complain();
@@ -363,17 +366,24 @@ fn list_asked(file: &[u8]) {
         numbers[i] = x as u16;
         i += 1;
     }
-    list_from(file, mark_of(numbers), room);
+    list_from(text, file, mark_of(numbers), room);
 }
 
-fn run(file: &[u8]) {
+fn run(text: &mut [u8], file: &[u8])
+    requires { ⌜ length (now text) ≡ 65536 ⌝ }
+{
     let words = os::arg_count();
     if words == 1 {
-        list_from(file, mark_of([65535, 0, 0, 0, 0, 0, 0, 0, 0]), u64::MAX);
+        list_from(
+            text,
+            file,
+            mark_of([65535, 0, 0, 0, 0, 0, 0, 0, 0]),
+            u64::MAX,
+        );
         return;
     }
     if words == 11 {
-        list_asked(file);
+        list_asked(text, file);
         return;
     }
     complain();
@@ -404,21 +414,24 @@ fn is_asked(word: &[u8]) -> bool {
     is_word(&buf[..n], word)
 }
 
-// What is done with the file on standard input.
-fn read_and_run() {
-    let mut bytes = file_room();
-    let n = io::read_full(STDIN_FILENO, &mut bytes);
-    if is_asked(b"unpack") {
-        lists::unpack(&bytes[..n]);
-    } else {
-        run(&bytes[..n]);
+// Does what the arguments ask for, with a text to write lines to and room for a file.
+fn work(text: &mut [u8], bytes: &mut [u8])
+    requires { ⌜ length (now text) ≡ 65536 ⌝ }
+{
+    if is_asked(b"pack") {
+        lists::pack(text, bytes);
+        return;
     }
+    let n = io::read_full(STDIN_FILENO, bytes);
+    if is_asked(b"unpack") {
+        lists::unpack(text, &bytes[..n]);
+        return;
+    }
+    run(text, &bytes[..n]);
 }
 
 fn main() {
-    if is_asked(b"pack") {
-        lists::pack();
-    } else {
-        read_and_run();
-    }
+    let mut text = io::large_buffer();
+    let mut bytes = file_room();
+    work(&mut text, &mut bytes);
 }

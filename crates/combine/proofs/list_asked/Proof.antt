@@ -7,10 +7,10 @@ use Rattle.combine.proofs.list_asked.Statement.{statement}
 use Rattle.combine.proofs.list_asked.Tie as tie
 
 abbrev Inv-loop : tie.InvT-loop
-Inv-loop file room numbers₀ i₀ numbers i = (i ≤ 9) × (length numbers ≡ 9)
+Inv-loop text file room numbers₀ i₀ numbers i = (i ≤ 9) × (length numbers ≡ 9)
 
 abbrev μ-loop : tie.MeasureT-loop
-μ-loop file room numbers₀ i₀ numbers i = 9 - i
+μ-loop text file room numbers₀ i₀ numbers i = 9 - i
 
 number-at-requires : tie.Need-number-at-requires Inv-loop μ-loop
 number-at-requires c κs = search needs
@@ -66,6 +66,9 @@ mark-of-requires c κs = search needs
 list-from-requires : tie.Need-list-from-requires Inv-loop μ-loop
 list-from-requires c κs = search needs
 
+same-length : tie.Need-same-length Inv-loop μ-loop
+same-length c = search needs
+
 returns-3 : tie.Need-returns-3 Inv-loop μ-loop
 returns-3 c = search needs
 
@@ -93,4 +96,5 @@ list-asked-spec =
     loop-again
     mark-of-requires
     list-from-requires
+    same-length
     returns-3)

@@ -20,29 +20,20 @@ at-most-requires-2 c κs = search needs
 at-most-requires-3 : tie.Need-at-most-requires-3
 at-most-requires-3 c κs = search needs
 
-file-room-requires : tie.Need-file-room-requires
-file-room-requires c κs = search needs
-
 slice-aggregate-write : tie.Need-slice-aggregate-write
-slice-aggregate-write c = sym (length-take-le _ (c .before .before .before .before .before .before .before .before .args .coordinates .now) (c .before .before .before .before .at-most .ensures))
+slice-aggregate-write c = sym (length-take-le _ (c .before .before .before .before .before .before .before .before .args .coordinates .now) (c .before .before .before .at-most .ensures))
 
 slice-aggregate-write-2 : tie.Need-slice-aggregate-write-2
-slice-aggregate-write-2 c = sym (length-take-le _ (c .before .before .before .before .before .before .before .before .before .args .numbers .now) (c .before .before .before .before .at-most2 .ensures))
+slice-aggregate-write-2 c = sym (length-take-le _ (c .before .before .before .before .before .before .before .before .before .args .numbers .now) (c .before .before .before .at-most2 .ensures))
 
 slice-aggregate-write-3 : tie.Need-slice-aggregate-write-3
-slice-aggregate-write-3 c = sym (length-take-le _ (c .before .before .before .before .before .before .before .before .before .before .args .parts .now) (c .before .before .before .before .at-most3 .ensures))
-
-slice-aggregate-write-4 : tie.Need-slice-aggregate-write-4
-slice-aggregate-write-4 c = search needs
+slice-aggregate-write-3 c = sym (length-take-le _ (c .before .before .before .before .before .before .before .before .before .before .args .parts .now) (c .before .before .before .at-most3 .ensures))
 
 write-requires : tie.Need-write-requires
 write-requires c κs = search needs
 
 enum-known-answer : tie.Need-enum-known-answer
 enum-known-answer c = search needs
-
-slice-aggregate-show-file : tie.Need-slice-aggregate-show-file
-slice-aggregate-show-file c = search needs
 
 show-file-requires : tie.Need-show-file-requires
 show-file-requires c κs = search needs
@@ -53,11 +44,17 @@ enum-known-answer-2 c = search needs
 tell-refused-requires : tie.Need-tell-refused-requires
 tell-refused-requires c κs = search needs
 
+same-length : tie.Need-same-length
+same-length c = search needs
+
 returns : tie.Need-returns
 returns c = search needs
 
-same-length : tie.Need-same-length
-same-length c = search needs
+same-length-2 : tie.Need-same-length-2
+same-length-2 c = search needs
+
+same-length-3 : tie.Need-same-length-3
+same-length-3 c = search needs
 
 returns-2 : tie.Need-returns-2
 returns-2 c = search needs
@@ -71,17 +68,16 @@ show-packed-spec =
     mul-at-most-2
     at-most-requires-2
     at-most-requires-3
-    file-room-requires
     slice-aggregate-write
     slice-aggregate-write-2
     slice-aggregate-write-3
-    slice-aggregate-write-4
     write-requires
     enum-known-answer
-    slice-aggregate-show-file
     show-file-requires
     enum-known-answer-2
     tell-refused-requires
-    returns
     same-length
+    returns
+    same-length-2
+    same-length-3
     returns-2)
