@@ -10,9 +10,10 @@ use lib.Signed.{mag}
 use mir.Syntax.{w32, w64}
 use mir.Val.{SFits, toZ, ofZ}
 use mir.ValLaws.{toZ-ofZ, toZ-pos}
-use Rattle.reading_lists.specs.declared.Reader.{Reader}
-use Rattle.reading_lists.specs.declared.Spot.the-variants.{Coordinate}
-use Rattle.reading_lists.specs.Reading.{most, numberOf}
+use Rattle.reading_words.specs.declared.Reader.{Reader}
+use Rattle.reading_words.specs.declared.Spot.the-variants.{Coordinate}
+use Rattle.reading_words.specs.Steps.{most}
+use Rattle.reading_lists.specs.Reading.{numberOf}
 
 from-zero : (n : ℕ) → pos 0 -ℤ pos n ≡ negℤ (pos n)
 from-zero zero = refl

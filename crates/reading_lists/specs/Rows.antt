@@ -8,7 +8,8 @@ use lib.IntN.{ℤ, pos, negsuc}
 use lib.ListN.{length, replicate}
 use Rattle.reading_lists.specs.declared.Said.{Said}
 use Rattle.reading_lists.specs.declared.Said.the-variants.{Lists, Wrong}
-use Rattle.reading_lists.specs.Reading.{reading, readAll, begun, saidBy}
+use Rattle.reading_words.specs.Steps.{begun}
+use Rattle.reading_lists.specs.Reading.{reading, readAll, saidBy}
 
 -- what is said, and what the lent lists hold
 pub record TextOutcome : Type 0 where

@@ -2,7 +2,8 @@
 use mathlib.Core.Path.{sym, _∙_, ap}
 use native.Mathlib.Omega.{arith}
 use borrow.Author.Tests.{eq-eqb, ne-eqb, lt-ltb, le-ltb}
-use Rattle.reading_lists.specs.Reading.{wanted, saidBy}
+use Rattle.reading_words.specs.Steps.{wanted}
+use Rattle.reading_lists.specs.Reading.{saidBy}
 use borrow.Author.Needs.{needs}
 use Rattle.reading_lists.proofs.finish.Statement.{statement}
 use Rattle.reading_lists.proofs.finish.Tie as tie

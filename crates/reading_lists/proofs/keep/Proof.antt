@@ -4,7 +4,7 @@ use native.Mathlib.Omega.{arith}
 use lib.ListN.{set}
 use mir.Syntax.{w32}
 use mir.ValLaws.{toZ-ofZ}
-use Rattle.reading_lists.proofs.Fault.{right, most-label}
+use Rattle.reading_words.proofs.Fault.{right, most-label}
 use borrow.Author.Needs.{needs}
 use Rattle.reading_lists.proofs.keep.Statement.{statement}
 use Rattle.reading_lists.proofs.keep.Tie as tie

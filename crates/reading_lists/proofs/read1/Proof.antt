@@ -1,6 +1,6 @@
 -- `reading_lists::read1` meets its contract. Assumes nothing.
 use mathlib.Core.Path.{sym, _∙_}
-use Rattle.reading_lists.proofs.Fault.{ends-right}
+use Rattle.reading_words.proofs.Fault.{ends-right}
 use Rattle.reading_lists.proofs.Pieces.{read-number, read-other}
 use borrow.Author.Needs.{needs}
 use Rattle.reading_lists.proofs.read1.Statement.{statement}
