@@ -19,7 +19,7 @@ range-some (Label k) = omega arith
 range-some (Part k) = omega arith
 range-some Beyond = omega arith
 
-most-word : (s : Spot) (m : Bool) → most s m ≤ 4294967295
+pub most-word : (s : Spot) (m : Bool) → most s m ≤ 4294967295
 most-word Count true = omega arith
 most-word Count false = omega arith
 most-word (Coordinate k) true = omega arith
