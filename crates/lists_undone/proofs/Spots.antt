@@ -6,7 +6,7 @@ use native.Mathlib.Omega.{arith}
 use borrow.Author.Tests.{lt-ltb, le-ltb, le-leb}
 use Rattle.reading_words.specs.declared.Spot.{Spot}
 use Rattle.reading_words.specs.declared.Spot.the-variants.{Count, Coordinate, Label, Part}
-use Rattle.reading_words.specs.Steps.{wanted, tetSpot, spotOf, most, isBeyond, wordFault}
+use Rattle.reading_words.specs.Steps.{tetSpot, spotOf, most, isBeyond, wordFault}
 use Rattle.lists_undone.proofs.Readers.{inWord}
 
 tet-label : (x j i : ℕ) → x ≡ 5 * j + i → i < 4 → tetSpot x ≡ Label (4 * j + i)

@@ -1,6 +1,5 @@
 -- Reading the text of lists gives the lists, line by line. Assumes nothing.
 use mathlib.Core.Path.{_≡_, refl, sym, _∙_, ap}
-use mathlib.Core.Bool.{false}
 use mathlib.Core.List.{List, [], _∷_, _++_}
 use Prim.Native.Nat.{ℕ, zero, suc, _+_, _*_, _/_, _≤_, _<_}
 use native.Mathlib.Numerals.{add-one}
@@ -8,14 +7,14 @@ use native.Mathlib.Nat.{add-zero}
 use native.Mathlib.Omega.{arith}
 use borrow.Author.Tests.{le-ltb}
 use lib.IntN.{ℤ, pos}
-use lib.ListN.{length, getD, drop, set}
+use lib.ListN.{length, getD, set}
 use Rattle.base.specs.Lists.{spread, from, upTo}
 use Rattle.writing_lists.specs.Printed.{signedText, lineOf, vertexRow, tetRow, textOf}
-use Rattle.reading_words.specs.Steps.{wanted, begun}
+use Rattle.reading_words.specs.Steps.{begun}
 use Rattle.reading_lists.specs.declared.Said.the-variants.{Lists}
 use Rattle.reading_lists.specs.Reading.{Reading, reading, readAll, saidBy}
 use Rattle.reading_lists.proofs.Pieces.{read-pieces}
-use Rattle.lists_undone.specs.Undone.{Typed, Held, Undone, Texts}
+use Rattle.lists_undone.specs.Undone.{Typed, Held, Texts}
 use Rattle.lists_undone.proofs.Readers.{atRest}
 use Rattle.lists_undone.proofs.Rests.{Separates, space, newline, Rests, first-rests, second-rests, coordinate-rests, label-rests, part-rests}
 use Rattle.lists_undone.proofs.Printing.{line-one, line-more, over, over-next, over-all}

@@ -18,12 +18,14 @@ counted-requires c κs = search needs
 
 returns-2 : tie.Need-returns-2
 unfolding closed
-returns-2 c = let r = c .before .before .before .before .before .args .r in
+returns-2 c =
+    let r = c .before .before .before .before .before .args .r in
     c .counted .ensures ∙ rw (ne-eqb (r .form) 0 (c .before .before .before .if1 .left), eq-eqb (wordFault r) 0 (sym (c .before .before .word-fault .ensures) ∙ c .before .if2 .taken))
 
 returns-3 : tie.Need-returns-3
 unfolding closed faulty
-returns-3 c = let r = c .before .before .before .before .args .r in
+returns-3 c =
+    let r = c .before .before .before .before .args .r in
     let w = c .before .word-fault .ensures in
     rw (w, ne-eqb (r .form) 0 (c .before .before .if1 .left), ne-eqb (wordFault r) 0 (λ e. c .if2 .left (w ∙ e)))
 

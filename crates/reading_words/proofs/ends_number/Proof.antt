@@ -19,7 +19,8 @@ ends-word-requires c κs = search needs
 
 returns-3 : tie.Need-returns-3
 unfolding endsNumber
-returns-3 c = let r = c .before .before .before .before .before .before .before .args .r in
+returns-3 c =
+    let r = c .before .before .before .before .before .before .before .args .r in
     rw (eq-eqb (r .fault) 0 (c .before .before .before .before .before .if1 .left), c .before .before .before .before .if2 .left, sym (c .before .before .before .ends-word .ensures) ∙ c .before .before .if3 .taken, eq-eqb (r .form) 0 (c .if4 .taken))
 
 word-fault-requires : tie.Need-word-fault-requires
@@ -27,12 +28,14 @@ word-fault-requires c κs = search needs
 
 returns-4 : tie.Need-returns-4
 unfolding endsNumber
-returns-4 c = let r = c .before .before .before .before .before .before .before .before .args .r in
+returns-4 c =
+    let r = c .before .before .before .before .before .before .before .before .args .r in
     rw (c .word-fault .ensures, eq-eqb (r .fault) 0 (c .before .before .before .before .before .before .if1 .left), c .before .before .before .before .before .if2 .left, sym (c .before .before .before .before .ends-word .ensures) ∙ c .before .before .before .if3 .taken, ne-eqb (r .form) 0 (c .before .if4 .left))
 
 returns-5 : tie.Need-returns-5
 unfolding endsNumber
-returns-5 c = let r = c .before .before .before .before .before .args .r in
+returns-5 c =
+    let r = c .before .before .before .before .before .args .r in
     rw (eq-eqb (r .fault) 0 (c .before .before .before .if1 .left), c .before .before .if2 .left, sym (c .before .ends-word .ensures) ∙ c .if3 .left)
 
 pub ends-number-spec : {M : Type 1} → statement M

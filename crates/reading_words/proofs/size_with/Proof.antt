@@ -1,9 +1,8 @@
 -- `reading_words::size_with` meets its contract. Assumes nothing.
 use mathlib.Core.Path.{sym, _∙_}
-use native.Mathlib.Omega.{arith}
 use borrow.Author.Tests.{lt-ltb, le-ltb}
 use Rattle.reading_words.specs.Words.{sized}
-use Rattle.reading_words.proofs.Digit.{digit-low, digit-high}
+use Rattle.reading_words.proofs.Digit.{digit-low}
 use borrow.Author.Needs.{needs}
 use Rattle.reading_words.proofs.size_with.Statement.{statement}
 use Rattle.reading_words.proofs.size_with.Tie as tie
@@ -13,7 +12,8 @@ is-digit-requires c κs = search needs
 
 returns : tie.Need-returns
 unfolding sized
-returns c = let s = c .before .before .before .args .size in
+returns c =
+    let s = c .before .before .before .args .size in
     rw (sym (c .before .before .is-digit .ensures) ∙ c .before .if1 .taken, lt-ltb 429496729 s (c .if2 .taken))
 
 mul-result : tie.Need-mul-result
@@ -30,7 +30,8 @@ add-result c = search needs
 
 returns-2 : tie.Need-returns-2
 unfolding sized
-returns-2 c = let s = c .before .before .before .args .size in
+returns-2 c =
+    let s = c .before .before .before .args .size in
     rw (sym (c .before .before .is-digit .ensures) ∙ c .before .if1 .taken, le-ltb 429496729 s (c .if2 .left))
 
 returns-3 : tie.Need-returns-3

@@ -23,7 +23,8 @@ add-end c = search needs
 
 returns-2 : tie.Need-returns-2
 unfolding spotOf
-returns-2 c = let r = c .before .before .before .args .r in
+returns-2 c =
+    let r = c .before .before .before .args .r in
     rw (le-ltb (r .count) 2 (c .before .before .if1 .left), lt-ltb (r .count) (2 + 3 * r .n) (c .if2 .taken))
 
 wanted-requires : tie.Need-wanted-requires
@@ -34,13 +35,15 @@ tet-spot-requires c κs = search needs
 
 returns-3 : tie.Need-returns-3
 unfolding spotOf
-returns-3 c = let r = c .before .before .before .before .before .before .args .r in
+returns-3 c =
+    let r = c .before .before .before .before .before .before .args .r in
     c .tet-spot .ensures
     ∙ rw (le-ltb (r .count) 2 (omega arith), le-ltb (r .count) (2 + 3 * r .n) (omega arith), lt-ltb (r .count) (wanted r) (omega (arith, c .before .before .wanted .ensures)))
 
 returns-4 : tie.Need-returns-4
 unfolding spotOf
-returns-4 c = let r = c .before .before .before .before .before .args .r in
+returns-4 c =
+    let r = c .before .before .before .before .before .args .r in
     rw (le-ltb (r .count) 2 (omega arith), le-ltb (r .count) (2 + 3 * r .n) (omega arith), le-ltb (r .count) (wanted r) (omega (arith, c .before .wanted .ensures)))
 
 pub spot-of-spec : {M : Type 1} → statement M

@@ -20,7 +20,8 @@ is-beyond-requires c κs = search needs
 
 returns : tie.Need-returns
 unfolding wordFault
-returns c = let e : isBeyond (spotOf (c .before .before .before .args .r)) ≡ true = ap isBeyond (sym (c .before .before .spot-of .ensures)) ∙ sym (c .before .is-beyond .ensures) ∙ c .if1 .taken in
+returns c =
+    let e : isBeyond (spotOf (c .before .before .before .args .r)) ≡ true = ap isBeyond (sym (c .before .before .spot-of .ensures)) ∙ sym (c .before .is-beyond .ensures) ∙ c .if1 .taken in
     rw e
 
 returns-2 : tie.Need-returns-2
@@ -32,7 +33,8 @@ most-requires c κs = search needs
 
 returns-3 : tie.Need-returns-3
 unfolding wordFault
-returns-3 c = let r = c .before .before .before .before .before .before .before .before .args .r in
+returns-3 c =
+    let r = c .before .before .before .before .before .before .before .before .args .r in
     let m = c .before .before .most .ensures ∙ ap (λ s. most s (r .minus)) (c .before .before .before .before .before .before .before .spot-of .ensures) in
     rw (within (c .before .before .before .before .before), eq-eqb (r .form) 2 (c .before .before .before .if2 .left), le-leb (r .size) (most (spotOf r) (r .minus)) (omega arith))
 
@@ -41,7 +43,8 @@ range-fault-requires c κs = search needs
 
 returns-4 : tie.Need-returns-4
 unfolding wordFault
-returns-4 c = let r = c .before .before .before .before .before .before .before .before .before .args .r in
+returns-4 c =
+    let r = c .before .before .before .before .before .before .before .before .before .args .r in
     let s = c .before .before .before .before .before .before .before .before .spot-of .ensures in
     let m = c .before .before .before .most .ensures ∙ ap (λ s. most s (r .minus)) s in
     c .range-fault .ensures
