@@ -1,12 +1,12 @@
 -- The place of a number, by the numbers before it. Assumes nothing.
 use mathlib.Core.Path.{_≡_, ap, _∙_}
-use mathlib.Core.Bool.{Bool, false}
+use mathlib.Core.Bool.{Bool}
 use Prim.Native.Nat.{ℕ, _+_, _*_, _-_, _/_, _%_, _≤_, _<_}
 use native.Mathlib.Omega.{arith}
-use borrow.Author.Tests.{lt-ltb, le-ltb, le-leb}
+use borrow.Author.Tests.{lt-ltb, le-ltb, le-leb, lt-leb}
 use Rattle.reading_words.specs.declared.Spot.{Spot}
 use Rattle.reading_words.specs.declared.Spot.the-variants.{Count, Coordinate, Label, Part}
-use Rattle.reading_words.specs.Steps.{tetSpot, spotOf, most, isBeyond, wordFault}
+use Rattle.reading_words.specs.Steps.{tetSpot, spotOf, most, wordFault}
 use Rattle.lists_undone.proofs.Readers.{inWord}
 
 tet-label : (x j i : ℕ) → x ≡ 5 * j + i → i < 4 → tetSpot x ≡ Label (4 * j + i)
@@ -41,6 +41,6 @@ module _ (l f : ℕ) (m : Bool) (v k n t : ℕ) where
   spot-part j e g = behind-is (5 * j + 4) e (omega arith) ∙ tet-part (k - (2 + 3 * n)) j (omega arith)
 
 -- a number that is not too large for its place has no fault
-pub no-fault : (l : ℕ) (m : Bool) (v k n t : ℕ) (s : Spot) → spotOf (inWord l 2 m v k n t) ≡ s → isBeyond s ≡ false → v ≤ most s m → wordFault (inWord l 2 m v k n t) ≡ 0
+pub no-fault : (l : ℕ) (m : Bool) (v k n t : ℕ) (s : Spot) → spotOf (inWord l 2 m v k n t) ≡ s → k < 2 + 3 * n + 5 * t → v ≤ most s m → wordFault (inWord l 2 m v k n t) ≡ 0
 unfolding wordFault
-no-fault l m v k n t s e b h = rw (e, b, le-leb v (most s m) h)
+no-fault l m v k n t s e b h = rw (lt-leb (2 + 3 * n + 5 * t) k b, e, le-leb v (most s m) h)

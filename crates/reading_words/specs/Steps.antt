@@ -2,7 +2,7 @@
 -- four vertex numbers and a part a tetrahedron. A text is read byte by byte, and its first fault ends it.
 -- Assumes nothing.
 use Prim.Native.Nat.{ℕ, _+_, _*_, _-_, _/_, _%_, min}
-use mathlib.Core.Bool.{Bool, true, false, not, cond, _&&_, _||_}
+use mathlib.Core.Bool.{Bool, false, not, cond, _&&_, _||_}
 use lib.Dec.{eqb, leb, ltb}
 use Rattle.reading_words.specs.declared.Reader.{Reader}
 use Rattle.reading_words.specs.declared.Spot.{Spot}
@@ -44,17 +44,10 @@ rangeFault (Label k) = 6
 rangeFault (Part k) = 6
 rangeFault Beyond = 2
 
-abbrev pub isBeyond : Spot → Bool
-isBeyond Count = false
-isBeyond (Coordinate k) = false
-isBeyond (Label k) = false
-isBeyond (Part k) = false
-isBeyond Beyond = true
-
 -- of the word that has been read, and 0 where it is a number in its place
 unfoldable pub wordFault : Reader → ℕ
 wordFault r =
-    cond (isBeyond (spotOf r)) 2
+    cond (leb (wanted r) (r .count)) 2
     (cond (not (eqb (r .form) 2)) 3
     (cond (leb (r .size) (most (spotOf r) (r .minus))) 0 (rangeFault (spotOf r))))
 

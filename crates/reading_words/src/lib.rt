@@ -3,7 +3,7 @@ ghost use mathlib.Core.Path.{_≡_};
 ghost use mathlib.Core.Bool.{cond, _||_};
 ghost use lib.Dec.{eqb};
 ghost use Rattle.reading_words.specs.Words.{isBlank, endsWord, isDigit, formed, sized};
-ghost use Rattle.reading_words.specs.Steps.{wanted, tetSpot, spotOf, most, rangeFault, isBeyond, wordFault, grown, counted, closed};
+ghost use Rattle.reading_words.specs.Steps.{wanted, tetSpot, spotOf, most, rangeFault, wordFault, grown, counted, closed};
 ghost use Rattle.reading_words.specs.Steps.{lineBehind, commentBehind, passed, next, endsNumber};
 
 // How far a text is read: the line; whether it stands in a comment; of the word that has begun its form, its sign and
@@ -113,7 +113,7 @@ fn grown(r: Reader, b: u8) -> Reader
 
 // ---- the places of the numbers
 
-// The numbers of a text are at most 34,359,738,362.
+// It fits, since n and t have 32 bits.
 pub fn wanted(r: Reader) -> u64
     ensures { λ k. ⌜ k ≡ wanted r ⌝ }
 {
@@ -151,18 +151,6 @@ pub fn spot_of(r: Reader) -> Spot
 
 // ---- a word's fault
 
-fn is_beyond(s: Spot) -> bool
-    ensures { λ r. ⌜ r ≡ isBeyond s ⌝ }
-{
-    match s {
-        Spot::Count => false,
-        Spot::Coordinate(_) => false,
-        Spot::Label(_) => false,
-        Spot::Part(_) => false,
-        Spot::Beyond => true,
-    }
-}
-
 fn most(s: Spot, minus: bool) -> u64
     ensures { λ r. ⌜ r ≡ most s minus ⌝ }
 {
@@ -190,13 +178,13 @@ fn range_fault(s: Spot) -> u8
 fn word_fault(r: Reader) -> u8
     ensures { λ k. ⌜ k ≡ wordFault r ⌝ }
 {
-    let s = spot_of(r);
-    if is_beyond(s) {
+    if wanted(r) <= r.count {
         return 2;
     }
     if r.form != 2 {
         return 3;
     }
+    let s = spot_of(r);
     if r.size <= most(s, r.minus) {
         return 0;
     }

@@ -1,13 +1,13 @@
 -- `reading_words::counted` meets its contract. Assumes nothing.
 use native.Mathlib.Omega.{arith}
 use Rattle.reading_words.specs.Steps.{counted}
-use Rattle.reading_words.proofs.Fault.{right-count}
+use Rattle.reading_words.proofs.Fault.{right}
 use borrow.Author.Needs.{needs}
 use Rattle.reading_words.proofs.counted.Statement.{statement}
 use Rattle.reading_words.proofs.counted.Tie as tie
 
 add-s : tie.Need-add-s
-add-s c = record { fits = omega (arith, right-count (c .before .args .r) (c .before .pre)) }
+add-s c = record { fits = omega (arith, right (c .before .args .r) (c .before .pre) .within) }
 
 count-with-requires : tie.Need-count-with-requires
 count-with-requires c κs = search needs
