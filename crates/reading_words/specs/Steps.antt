@@ -103,11 +103,11 @@ closed r = cond (eqb (r .form) 0) r (cond (eqb (wordFault r) 0) (counted r) (fau
 unfoldable pub lineBehind : ℕ → ℕ → ℕ
 lineBehind line b = cond (eqb b 10) (min (line + 1) 18446744073709551615) line
 
--- whether a comment stands behind a byte that stands in no word, in a comment or not: a line end, a # or another
+-- whether what follows a byte that stands in no word stands in a comment: a line end ends one, a # begins one
 unfoldable pub commentBehind : Bool → ℕ → Bool
 commentBehind comment b = cond (eqb b 10) false (comment || eqb b 35)
 
--- behind such a byte
+-- behind a byte that stands in no word
 unfoldable pub passed : Reader → ℕ → Reader
 passed r b = record {
   line = lineBehind (r .line) b;
