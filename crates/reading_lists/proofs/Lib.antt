@@ -1,5 +1,3 @@
-pub mod Digit
-pub mod Fault
 pub mod Signs
 pub mod Pieces
 pub mod Worked

@@ -7,8 +7,9 @@ use native.Mathlib.Numerals.{add-one}
 use lib.IntN.{ℤ}
 use lib.ListN.{length, getD, drop}
 use lib.Seq.{drop-cons}
-use Rattle.reading_lists.specs.declared.Reader.{Reader}
-use Rattle.reading_lists.specs.Reading.{spotOf, next, endsNumber, numberOf, coordsWith, labelsWith, partsWith, Reading, reading, read1, readAll}
+use Rattle.reading_words.specs.declared.Reader.{Reader}
+use Rattle.reading_words.specs.Steps.{spotOf, next, endsNumber}
+use Rattle.reading_lists.specs.Reading.{numberOf, coordsWith, labelsWith, partsWith, Reading, reading, read1, readAll}
 
 module _ (r : Reader) (b : ℕ) (cs : List ℤ) (ls ps : List ℕ) {s : Reader} (n : s ≡ next r b) where
   -- the byte ends a number

@@ -1,18 +1,18 @@
 -- A coordinate from its size and its sign, as the code computes it with 64 bits. Assumes nothing.
-use mathlib.Core.Path.{_≡_, refl, sym, _∙_, ap}
-use mathlib.Core.Bool.{Bool, true, false, cond}
+use mathlib.Core.Path.{_≡_, refl, _∙_, ap}
+use mathlib.Core.Bool.{Bool, true, false}
 use Prim.Native.Nat.{ℕ, zero, suc, _≤_}
-use native.Mathlib.Nat.{zero-add}
 use native.Mathlib.Omega.{arith}
 use borrow.Author.Tests.{lt-ltb}
-use lib.IntN.{ℤ, pos, negsuc, negℤ, natAbs, _-ℤ_, _+ℤ_}
+use lib.IntN.{pos, negsuc, negℤ, _-ℤ_}
 use lib.Signed.{mag}
 use mir.Syntax.{w32, w64}
 use mir.Val.{SFits, toZ, ofZ}
 use mir.ValLaws.{toZ-ofZ, toZ-pos}
-use Rattle.reading_lists.specs.declared.Reader.{Reader}
-use Rattle.reading_lists.specs.declared.Spot.the-variants.{Coordinate}
-use Rattle.reading_lists.specs.Reading.{most, numberOf}
+use Rattle.reading_words.specs.declared.Reader.{Reader}
+use Rattle.reading_words.specs.declared.Spot.the-variants.{Coordinate}
+use Rattle.reading_words.specs.Steps.{most}
+use Rattle.reading_lists.specs.Reading.{numberOf}
 
 from-zero : (n : ℕ) → pos 0 -ℤ pos n ≡ negℤ (pos n)
 from-zero zero = refl

@@ -1,4 +1,2 @@
-pub mod Words
 pub mod Reading
 pub mod Rows
-pub mod Undone

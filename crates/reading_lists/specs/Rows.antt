@@ -8,7 +8,8 @@ use lib.IntN.{ℤ, pos, negsuc}
 use lib.ListN.{length, replicate}
 use Rattle.reading_lists.specs.declared.Said.{Said}
 use Rattle.reading_lists.specs.declared.Said.the-variants.{Lists, Wrong}
-use Rattle.reading_lists.specs.Reading.{reading, readAll, begun, saidBy}
+use Rattle.reading_words.specs.Steps.{begun}
+use Rattle.reading_lists.specs.Reading.{Reading, reading, readAll, saidBy}
 
 -- what is said, and what the lent lists hold
 pub record TextOutcome : Type 0 where
@@ -24,11 +25,14 @@ pub record TextRow : Type 0 where
 abbrev pub textRow : List ℕ → Said → List ℤ → List ℕ → List ℕ → TextRow
 textRow xs a cs ls ps = record { text = xs; outcome = record { said = a; coordinates = cs; labels = ls; parts = ps } }
 
--- a text and a line end, read into lists of as many entries as the outcome's, each 9
+-- lists of as many entries as the outcome's, each 9
+abbrev lent : TextOutcome → Reading
+lent o = reading begun (replicate (length (o .coordinates)) (pos 9)) (replicate (length (o .labels)) 9) (replicate (length (o .parts)) 9)
+
+-- the text and a line end, read into such lists
 unfoldable pub outcomeOf : TextRow → TextOutcome
 outcomeOf r =
-    let o = r .outcome in
-    let s = readAll (r .text ++ 10 ∷ []) (reading begun (replicate (length (o .coordinates)) (pos 9)) (replicate (length (o .labels)) 9) (replicate (length (o .parts)) 9)) in
+    let s = readAll (r .text ++ 10 ∷ []) (lent (r .outcome)) in
     record { said = saidBy (s .reader); coordinates = s .coordinates; labels = s .labels; parts = s .parts }
 
 -- a text that reads into no lists
@@ -75,7 +79,14 @@ texts =
     bare (45 ∷ 48 ∷ 32 ∷ 48 ∷ 48 ∷ 48 ∷ 35 ∷ []) (Lists 0 0) ∷
     -- ---- one vertex and one tetrahedron: a comment, a line end of two characters, a tab, the ends of the ranges
     -- 1 1 # x\r\n-2147483648 2147483647\t-7\r\n0 1 65535 2 3
-    textRow (49 ∷ 32 ∷ 49 ∷ 32 ∷ 35 ∷ 32 ∷ 120 ∷ 13 ∷ 10 ∷ 45 ∷ 50 ∷ 49 ∷ 52 ∷ 55 ∷ 52 ∷ 56 ∷ 51 ∷ 54 ∷ 52 ∷ 56 ∷ 32 ∷ 50 ∷ 49 ∷ 52 ∷ 55 ∷ 52 ∷ 56 ∷ 51 ∷ 54 ∷ 52 ∷ 55 ∷ 9 ∷ 45 ∷ 55 ∷ 13 ∷ 10 ∷ 48 ∷ 32 ∷ 49 ∷ 32 ∷ 54 ∷ 53 ∷ 53 ∷ 51 ∷ 53 ∷ 32 ∷ 50 ∷ 32 ∷ 51 ∷ []) (Lists 1 1) (negsuc 2147483647 ∷ pos 2147483647 ∷ negsuc 6 ∷ []) (0 ∷ 1 ∷ 65535 ∷ 2 ∷ []) (3 ∷ []) ∷
+    textRow
+    ((49 ∷ 32 ∷ 49 ∷ 32 ∷ 35 ∷ 32 ∷ 120 ∷ 13 ∷ 10 ∷ [])
+    ++ (45 ∷ 50 ∷ 49 ∷ 52 ∷ 55 ∷ 52 ∷ 56 ∷ 51 ∷ 54 ∷ 52 ∷ 56 ∷ 32 ∷ 50 ∷ 49 ∷ 52 ∷ 55 ∷ 52 ∷ 56 ∷ 51 ∷ 54 ∷ 52 ∷ 55 ∷ 9 ∷ 45 ∷ 55 ∷ 13 ∷ 10 ∷ [])
+    ++ (48 ∷ 32 ∷ 49 ∷ 32 ∷ 54 ∷ 53 ∷ 53 ∷ 51 ∷ 53 ∷ 32 ∷ 50 ∷ 32 ∷ 51 ∷ []))
+    (Lists 1 1)
+    (negsuc 2147483647 ∷ pos 2147483647 ∷ negsuc 6 ∷ [])
+    (0 ∷ 1 ∷ 65535 ∷ 2 ∷ [])
+    (3 ∷ []) ∷
     -- ---- what has no room is left out
     -- 1 0 5 6 7
     textRow (49 ∷ 32 ∷ 48 ∷ 32 ∷ 53 ∷ 32 ∷ 54 ∷ 32 ∷ 55 ∷ []) (Lists 1 0) (pos 5 ∷ []) [] [] ∷

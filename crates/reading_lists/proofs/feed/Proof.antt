@@ -1,11 +1,9 @@
 -- `reading_lists::feed` meets its contract. The loop's invariant: what is left, read behind what is read, is all.
 -- Assumes nothing.
 use mathlib.Core.Path.{_≡_, refl, sym, _∙_, ap}
-use Prim.Native.Nat.{_+_, _-_, _≤_}
-use native.Mathlib.Numerals.{add-one}
+use Prim.Native.Nat.{_-_}
 use native.Mathlib.Omega.{arith}
-use lib.ListN.{length, getD, drop, drop-of-length-le}
-use lib.Seq.{drop-cons}
+use lib.ListN.{length, drop, drop-of-length-le}
 use borrow.Author.Needs.{needs}
 use Rattle.reading_lists.specs.Reading.{reading, readAll}
 use Rattle.reading_lists.proofs.Pieces.{read-more}

@@ -1,10 +1,10 @@
 -- `reading_lists::keep` meets its contract. Assumes nothing.
-use mathlib.Core.Path.{_≡_, refl, sym, _∙_, ap}
+use mathlib.Core.Path.{refl, sym, _∙_, ap}
 use native.Mathlib.Omega.{arith}
 use lib.ListN.{set}
 use mir.Syntax.{w32}
 use mir.ValLaws.{toZ-ofZ}
-use Rattle.reading_lists.proofs.Fault.{right, most-label}
+use Rattle.reading_words.proofs.Fault.{right, most-label}
 use borrow.Author.Needs.{needs}
 use Rattle.reading_lists.proofs.keep.Statement.{statement}
 use Rattle.reading_lists.proofs.keep.Tie as tie
@@ -25,7 +25,8 @@ enum-known-s-2 : tie.Need-enum-known-s-2
 enum-known-s-2 c = search needs
 
 cast-put-number : tie.Need-cast-put-number
-cast-put-number c = let s = c .before .before .before .before .before .before .before .before in
+cast-put-number c =
+    let s = c .before .before .before .before .before .before .before .before in
     let h = rw (sym (c .before .before .before .before .before .spot-of .ensures) ∙ c .before .before .before .s2 .given .1) at (right (s .args .r) (s .pre) .small) in
     record { fits = omega (arith, h, most-label (s .args .r .minus)) }
 
@@ -36,7 +37,8 @@ enum-known-s-3 : tie.Need-enum-known-s-3
 enum-known-s-3 c = search needs
 
 cast-put-number-2 : tie.Need-cast-put-number-2
-cast-put-number-2 c = let s = c .before .before .before .before .before .before .before .before in
+cast-put-number-2 c =
+    let s = c .before .before .before .before .before .before .before .before in
     let h = rw (sym (c .before .before .before .before .before .spot-of .ensures) ∙ c .before .before .before .s3 .given .1) at (right (s .args .r) (s .pre) .small) in
     record { fits = omega (arith, h, most-label (s .args .r .minus)) }
 
@@ -53,7 +55,8 @@ same-length : tie.Need-same-length
 same-length c = search needs
 
 returns : tie.Need-returns
-returns c = rw (sym (c .before .before .before .before .before .before .before .spot-of .ensures) ∙ c .before .before .before .before .before .s .given .1)
+returns c =
+    rw (sym (c .before .before .before .before .before .before .before .spot-of .ensures) ∙ c .before .before .before .before .before .s .given .1)
     (c .before .put-word .ensures ∙ ap (set (c .before .before .before .before .before .before .before .before .before .before .args .coordinates .now) _) (toZ-ofZ w32 _ (search needs) ∙ c .before .before .number-of .ensures), (refl, refl))
 
 same-length-2 : tie.Need-same-length-2

@@ -1,5 +1,4 @@
 -- `reading_lists::number_of` meets its contract. Assumes nothing.
-use mathlib.Core.Path.{_≡_, _∙_}
 use Rattle.reading_lists.proofs.Signs.{wide-fits, plus-fits, plus-is, minus-wide, minus-fits, minus-is}
 use Rattle.reading_lists.proofs.number_of.Statement.{statement}
 use Rattle.reading_lists.proofs.number_of.Tie as tie

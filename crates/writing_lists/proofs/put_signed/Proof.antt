@@ -1,5 +1,5 @@
 -- `writing_lists::put_signed` meets its contract. Assumes nothing.
-use mathlib.Core.Path.{_≡_, sym, _∙_, ap}
+use mathlib.Core.Path.{sym, _∙_, ap}
 use mathlib.Core.List.{_∷_}
 use Prim.Native.Nat.{_+_}
 use lib.IntN.{natAbs}

@@ -1,0 +1,5 @@
+pub mod Readers
+pub mod Spots
+pub mod Rests
+pub mod Printing
+pub mod Undoes
