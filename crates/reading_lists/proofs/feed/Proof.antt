@@ -37,9 +37,15 @@ loop-less c = omega arith
 
 loop-again : tie.Need-loop-again Inv-loop μ-loop
 loop-again c =
+    let chunk = c .before .before .before .before .before .before .before .before .before .before .before .before .before .before .before .args .chunk .now in
     let l = c .before .before .before .before .before .before .before .before .before .before .before .loop in
     let t = c .before .before .before .before .before .read1 in
-    (read-more (c .before .before .before .before .before .before .before .before .before .before .before .before .before .before .before .args .chunk .now) (l .i) (reading (l .s) (l .coordinates) (l .labels) (l .parts)) (omega arith) (t .ensures) (l .inv .0), t .kept .1 .1 .0 ∙ l .inv .1, t .kept .1 .1 .1 .0 ∙ l .inv .2, t .kept .1 .1 .1 .1 .0 ∙ l .inv .3)
+    let s = reading (l .s) (l .coordinates) (l .labels) (l .parts) in (
+      read-more chunk (l .i) s {t = reading (t .result) (t .last .1 .1 .0) (t .last .1 .1 .1 .0) (t .last .1 .1 .1 .1 .0)} (omega arith) (t .ensures) (l .inv .0),
+      t .kept .1 .1 .0 ∙ l .inv .1,
+      t .kept .1 .1 .1 .0 ∙ l .inv .2,
+      t .kept .1 .1 .1 .1 .0 ∙ l .inv .3,
+    )
 
 same-length : tie.Need-same-length Inv-loop μ-loop
 same-length c = c .before .loop .inv .1
