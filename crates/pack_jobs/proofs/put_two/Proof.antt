@@ -1,9 +1,9 @@
--- `combine::lists::put_two` meets its contract. Assumes nothing.
+-- `pack_jobs::put_two` meets its contract. Assumes nothing.
 use native.Mathlib.Omega.{arith}
 use Rattle.lines.proofs.Numbers.{spaced-length}
 use borrow.Author.Needs.{needs}
-use Rattle.combine.proofs.lists.put_two.Statement.{statement}
-use Rattle.combine.proofs.lists.put_two.Tie as tie
+use Rattle.pack_jobs.proofs.put_two.Statement.{statement}
+use Rattle.pack_jobs.proofs.put_two.Tie as tie
 
 put-number-requires : tie.Need-put-number-requires
 put-number-requires c κs = search needs

@@ -1,11 +1,11 @@
--- `combine::show_cells` meets its contract. The loop's invariant:
+-- `listing_job::show_cells` meets its contract. The loop's invariant:
 -- the text has its length, and the next line's place lies in it. Assumes nothing.
 use mathlib.Core.Path.{_≡_}
 use Prim.Native.Nat.{_-_, _≤_}
 use native.Mathlib.Omega.{arith}
 use lib.ListN.{length}
-use Rattle.combine.proofs.show_cells.Statement.{statement}
-use Rattle.combine.proofs.show_cells.Tie as tie
+use Rattle.listing_job.proofs.show_cells.Statement.{statement}
+use Rattle.listing_job.proofs.show_cells.Tie as tie
 
 abbrev Inv-loop : tie.InvT-loop
 Inv-loop out₀ records count at₀ i₀ out at i = (i ≤ count) × (at ≤ 65536) × (length out ≡ length out₀)

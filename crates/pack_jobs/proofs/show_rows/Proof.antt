@@ -1,11 +1,11 @@
--- `combine::lists::show_rows` meets its contract. The loop's invariant:
+-- `pack_jobs::show_rows` meets its contract. The loop's invariant:
 -- the text has its length, and the next line's place lies in it. Assumes nothing.
 use mathlib.Core.Path.{_≡_}
 use Prim.Native.Nat.{_-_, _≤_}
 use native.Mathlib.Omega.{arith}
 use lib.ListN.{length}
-use Rattle.combine.proofs.lists.show_rows.Statement.{statement}
-use Rattle.combine.proofs.lists.show_rows.Tie as tie
+use Rattle.pack_jobs.proofs.show_rows.Statement.{statement}
+use Rattle.pack_jobs.proofs.show_rows.Tie as tie
 
 abbrev Inv-loop : tie.InvT-loop
 Inv-loop out₀ file n t k at₀ i₀ out at i = (i ≤ k) × (at ≤ 65536) × (length out ≡ length out₀)

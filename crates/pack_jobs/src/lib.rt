@@ -5,15 +5,15 @@
 // The answer goes to standard output. Where there is none, nothing is written there, and a line on standard error says
 // why: `refused` with its number, or `wrong` with a text's fault, its line, how many numbers stand before it and how
 // many are wanted; or `lost`, where the answer could not be written.
-use crate::flushed;
-use crate::show;
-use crate::show_number;
 use arrays::Checked;
 use libc::STDERR_FILENO;
 use libc::STDIN_FILENO;
 use libc::STDOUT_FILENO;
 use lines::put_number;
 use lines::put_text;
+use output::flushed;
+use output::show;
+use output::show_number;
 use packing::Written;
 use reading_lists::Said;
 use space::Tet;

@@ -1,23 +1,20 @@
--- `combine::show` meets its contract. Assumes nothing.
+-- `output::show` meets its contract. Assumes nothing.
 use mathlib.Core.Path.{sym}
 use native.Mathlib.Omega.{arith}
 use lib.Seq.{length-take-le}
 use borrow.Author.Needs.{needs}
-use Rattle.combine.proofs.show.Statement.{statement}
-use Rattle.combine.proofs.show.Tie as tie
-use Rattle.combine.proofs.show.Reads as reads
-use Rattle.combine.proofs.show.Lts as lts
+use Rattle.output.proofs.show.Statement.{statement}
+use Rattle.output.proofs.show.Tie as tie
+use Rattle.output.proofs.show.Reads as reads
+use Rattle.output.proofs.show.Lts as lts
 use Rattle.io.proofs.write_all.Reads as write-all-reads
 
--- src/main.rt:27:34
 slice-aggregate-write-all : tie.Need-slice-aggregate-write-all
 slice-aggregate-write-all c = sym (length-take-le (c .before .before .args .at) (c .before .before .args .out .now) (omega arith))
 
--- src/main.rt:27:5
 write-all-requires : tie.Need-write-all-requires
 write-all-requires c κs = search needs
 
--- src/main.rt:24:1
 returns : tie.Need-returns
 returns c = search needs
 

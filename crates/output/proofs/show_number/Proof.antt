@@ -1,43 +1,36 @@
--- `combine::show_number` meets its contract. Assumes nothing.
+-- `output::show_number` meets its contract. Assumes nothing.
 use native.Mathlib.Omega.{arith}
 use Rattle.lines.proofs.Numbers.{spaced-length}
 use borrow.Author.Needs.{needs}
-use Rattle.combine.proofs.show_number.Statement.{statement}
-use Rattle.combine.proofs.show_number.Tie as tie
-use Rattle.combine.proofs.show_number.Reads as reads
-use Rattle.combine.proofs.show_number.Lts as lts
-use Rattle.combine.proofs.show.Reads as show-reads
+use Rattle.output.proofs.show_number.Statement.{statement}
+use Rattle.output.proofs.show_number.Tie as tie
+use Rattle.output.proofs.show_number.Reads as reads
+use Rattle.output.proofs.show_number.Lts as lts
+use Rattle.output.proofs.show.Reads as show-reads
 use Rattle.lines.proofs.put_number.Reads as put-number-reads
 use Rattle.lines.proofs.put_text.Reads as put-text-reads
 
--- src/main.rt:34:9
 put-text-requires : tie.Need-put-text-requires
 put-text-requires c κs = search needs
 
--- src/main.rt:35:9
 put-number-requires : tie.Need-put-number-requires
 put-number-requires c κs = search needs
 
--- src/main.rt:36:37
 slice-aggregate-put-text : tie.Need-slice-aggregate-put-text
 slice-aggregate-put-text c = search needs
 
--- src/main.rt:36:9
 put-text-requires-2 : tie.Need-put-text-requires-2
 put-text-requires-2 c κs =
     let n = c .before .before .before .before .put-number .ensures in
     let t = c .before .before .before .before .before .before .before .before .put-text .ensures in
     omega (arith, t .0, t .1 .same, n .0, n .1 .same, spaced-length (c .before .before .before .before .before .before .before .before .before .before .before .before .args .x))
 
--- src/main.rt:37:5
 show-requires : tie.Need-show-requires
 show-requires c κs = search needs
 
--- src/main.rt:31:1
 same-length : tie.Need-same-length
 same-length c = search needs
 
--- src/main.rt:31:1
 returns : tie.Need-returns
 returns c = search needs
 

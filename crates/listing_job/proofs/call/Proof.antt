@@ -1,55 +1,45 @@
--- `combine::call` meets its contract. Assumes nothing.
+-- `listing_job::call` meets its contract. Assumes nothing.
 use mathlib.Core.Path.{sym}
 use Prim.Native.Nat.{_*_}
 use native.Mathlib.Omega.{arith}
 use lib.Seq.{length-take-le}
 use Rattle.record.specs.Entries.{recordSize}
 use borrow.Author.Needs.{needs}
-use Rattle.combine.proofs.call.Statement.{statement}
-use Rattle.combine.proofs.call.Tie as tie
-use Rattle.combine.proofs.call.Reads as reads
-use Rattle.combine.proofs.call.Lts as lts
-use Rattle.combine.proofs.batch.Reads as batch-reads
-use Rattle.combine.proofs.show_answer.Reads as told-reads
+use Rattle.listing_job.proofs.call.Statement.{statement}
+use Rattle.listing_job.proofs.call.Tie as tie
+use Rattle.listing_job.proofs.call.Reads as reads
+use Rattle.listing_job.proofs.call.Lts as lts
+use Rattle.listing_job.proofs.batch.Reads as batch-reads
+use Rattle.listing_job.proofs.show_answer.Reads as told-reads
 use Rattle.listing.proofs.portion.Reads as portion-reads
 
--- src/main.rt:212:20
 batch-requires : tie.Need-batch-requires
 batch-requires c κs = search needs
 
--- src/main.rt:212:15
 mul-end : tie.Need-mul-end
 mul-end c = search needs
 
--- src/main.rt:213:16
 slice-relend-prefix-part : tie.Need-slice-relend-prefix-part
 slice-relend-prefix-part c = search needs
 
--- src/main.rt:213:9
 slice-aggregate-part : tie.Need-slice-aggregate-part
 slice-aggregate-part c = sym (length-take-le (recordSize * c .before .batch .result) (c .before .before .before .before .before .before .args .records .now) (omega arith))
 
--- src/main.rt:214:9
 portion-requires : tie.Need-portion-requires
 portion-requires c κs = search needs
 
--- src/main.rt:215:5
 show-answer-requires : tie.Need-show-answer-requires
 show-answer-requires c κs = search needs
 
--- src/main.rt:201:1
 same-length : tie.Need-same-length
 same-length c = search needs
 
--- src/main.rt:201:1
 same-length-2 : tie.Need-same-length-2
 same-length-2 c = search needs
 
--- src/main.rt:201:1
 same-length-3 : tie.Need-same-length-3
 same-length-3 c = search needs
 
--- src/main.rt:201:1
 returns : tie.Need-returns
 returns c = search needs
 

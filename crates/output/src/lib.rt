@@ -1,0 +1,47 @@
+// Lines on standard output and on standard error. A line is put into a lent text of 65,536 bytes first.
+use libc::STDOUT_FILENO;
+ghost use Prim.Native.Nat.{_≤_};
+ghost use mathlib.Core.Path.{_≡_};
+ghost use lib.ListN.{length};
+
+// Writes the first `at` bytes of a text to standard output or standard error, and answers whether all were taken.
+pub fn show(fd: i32, out: &[u8], at: usize) -> bool
+    requires { ⌜ at ≤ length (now out) ⌝ }
+{
+    io::write_all(fd, &out[..at])
+}
+
+// Writes a line of a word and a number.
+pub fn show_number(fd: i32, out: &mut [u8], word: &[u8], x: u64) -> bool
+    requires { ⌜ (length (now out) ≡ 65536) × (length (now word) ≤ 10) ⌝ }
+{
+    let a = lines::put_text(out, 0, word);
+    let b = lines::put_number(out, a, x);
+    let c = lines::put_text(out, b, b"\n");
+    show(fd, out, c)
+}
+
+// Writes a line of a word and some numbers.
+pub fn show_numbers(out: &mut [u8], word: &[u8], numbers: &[u16]) -> bool
+    requires { ⌜ (length (now out) ≡ 65536) × (length (now word) ≤ 10) × (length (now numbers) ≤ 9) ⌝ }
+{
+    let a = lines::put_text(out, 0, word);
+    let b = lines::put_numbers(out, a, numbers);
+    let c = lines::put_text(out, b, b"\n");
+    show(STDOUT_FILENO, out, c)
+}
+
+// Writes the text where it has no room for a line more, and answers where the next goes;
+// past the text where that failed.
+pub fn flushed(out: &[u8], at: usize) -> usize
+    requires { ⌜ (length (now out) ≡ 65536) × (at ≤ 65536) ⌝ }
+{
+    if at <= 64000 {
+        return at;
+    }
+    if show(STDOUT_FILENO, out, at) {
+        0
+    } else {
+        65537
+    }
+}
