@@ -1,4 +1,5 @@
 // Lines on standard output and on standard error. A line is put into a lent text of 65,536 bytes first.
+use libc::STDERR_FILENO;
 use libc::STDOUT_FILENO;
 ghost use Prim.Native.Nat.{_≤_};
 ghost use mathlib.Core.Path.{_≡_};
@@ -44,4 +45,18 @@ pub fn flushed(out: &[u8], at: usize) -> usize
     } else {
         65537
     }
+}
+
+// ---- on standard error: why there is no answer
+
+// That it was refused, with this number.
+pub fn tell_refused(out: &mut [u8], number: u8)
+    requires { ⌜ length (now out) ≡ 65536 ⌝ }
+{
+    show_number(STDERR_FILENO, out, b"refused", number as u64);
+}
+
+// That it could not be written.
+pub fn tell_lost() {
+    io::write_all(STDERR_FILENO, b"lost\n");
 }

@@ -1,16 +1,16 @@
--- `listing_job::call` meets its contract. Assumes nothing.
+-- `combine::call` meets its contract. Assumes nothing.
 use mathlib.Core.Path.{sym}
 use Prim.Native.Nat.{_*_}
 use native.Mathlib.Omega.{arith}
 use lib.Seq.{length-take-le}
 use Rattle.record.specs.Entries.{recordSize}
 use borrow.Author.Needs.{needs}
-use Rattle.listing_job.proofs.call.Statement.{statement}
-use Rattle.listing_job.proofs.call.Tie as tie
-use Rattle.listing_job.proofs.call.Reads as reads
-use Rattle.listing_job.proofs.call.Lts as lts
-use Rattle.listing_job.proofs.batch.Reads as batch-reads
-use Rattle.listing_job.proofs.show_answer.Reads as told-reads
+use Rattle.combine.proofs.call.Statement.{statement}
+use Rattle.combine.proofs.call.Tie as tie
+use Rattle.combine.proofs.call.Reads as reads
+use Rattle.combine.proofs.call.Lts as lts
+use Rattle.combine.proofs.batch.Reads as batch-reads
+use Rattle.combine.proofs.show_answer.Reads as told-reads
 use Rattle.listing.proofs.portion.Reads as portion-reads
 
 batch-requires : tie.Need-batch-requires

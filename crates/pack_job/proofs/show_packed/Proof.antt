@@ -1,9 +1,9 @@
--- `pack_jobs::show_packed` meets its contract. Assumes nothing.
+-- `pack_job::show_packed` meets its contract. Assumes nothing.
 use mathlib.Core.Path.{sym}
 use lib.Seq.{length-take-le}
 use borrow.Author.Needs.{needs}
-use Rattle.pack_jobs.proofs.show_packed.Statement.{statement}
-use Rattle.pack_jobs.proofs.show_packed.Tie as tie
+use Rattle.pack_job.proofs.show_packed.Statement.{statement}
+use Rattle.pack_job.proofs.show_packed.Tie as tie
 
 mul-at-most : tie.Need-mul-at-most
 mul-at-most c = search needs

@@ -1,9 +1,9 @@
--- `listing_job::list` meets its contract. The loop's invariant: the rooms keep their lengths. Assumes nothing.
+-- `combine::list` meets its contract. The loop's invariant: the rooms keep their lengths. Assumes nothing.
 use mathlib.Core.Path.{_≡_}
 use native.Mathlib.Omega.{arith}
 use lib.ListN.{length}
-use Rattle.listing_job.proofs.list.Statement.{statement}
-use Rattle.listing_job.proofs.list.Tie as tie
+use Rattle.combine.proofs.list.Statement.{statement}
+use Rattle.combine.proofs.list.Tie as tie
 
 abbrev Inv-loop : tie.InvT-loop
 Inv-loop out₀ file table₀ records₀ room mark₀ done₀ turns₀ out table records mark done turns = (length out ≡ length out₀) × (length table ≡ length table₀) × (length records ≡ length records₀)
