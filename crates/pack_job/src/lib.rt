@@ -5,17 +5,14 @@
 // Where there is no file, nothing is written there, and a line on standard error says why: `refused` with its number, or
 // `wrong` with a text's fault, its line, how many numbers stand before it and how many are wanted; or `lost`, where the
 // file could not be written.
-use libc::STDERR_FILENO;
-use libc::STDIN_FILENO;
 use libc::STDOUT_FILENO;
-use lines::put_number;
-use lines::put_text;
 use output::show;
 use output::tell_lost;
 use output::tell_refused;
+use output::tell_wrong;
 use packing::Written;
 use reading_lists::Said;
-ghost use Prim.Native.Nat.{_+_, _≤_};
+ghost use Prim.Native.Nat.{_≤_};
 ghost use mathlib.Core.Path.{_≡_};
 ghost use lib.ListN.{length};
 
@@ -24,47 +21,7 @@ const COORDINATES: usize = 3 * 2219;
 
 const TETS: usize = 2663;
 
-// ---- what is wrong with a text
-
-// Puts two numbers, each with a space before it.
-fn put_two(out: &mut [u8], at: usize, x: u64, y: u64) -> usize
-    requires { ⌜ (length (now out) ≡ 65536) × (at ≤ 60000) ⌝ }
-    ensures { λ r. ⌜ r ≤ at + 42 ⌝ }
-{
-    let a = put_number(out, at, x);
-    put_number(out, a, y)
-}
-
-fn tell_wrong(out: &mut [u8], fault: u8, line: u64, before: u64, wanted: u64)
-    requires { ⌜ length (now out) ≡ 65536 ⌝ }
-{
-    let a = put_text(out, 0, b"wrong");
-    let b = put_two(out, a, fault as u64, line);
-    let c = put_two(out, b, before, wanted);
-    let d = put_text(out, c, b"\n");
-    show(STDERR_FILENO, out, d);
-}
-
 // ---- the lists, and their file
-
-// Reads all of the text on standard input. A loop has to end, so it counts down from a number that no run uses up.
-fn read_text(
-    text: &mut [u8],
-    coordinates: &mut [i32],
-    numbers: &mut [u16],
-    parts: &mut [u16],
-) -> Said {
-    let mut r = reading_lists::begin();
-    let mut turns = u64::MAX;
-    while turns > 0 {
-        let k = io::read_full(STDIN_FILENO, text);
-        r = reading_lists::feed(r, &text[..k], coordinates, numbers, parts);
-        turns = if k < text.len() { 0 } else { turns - 1 };
-    }
-    // A last word may stand without a line end.
-    r = reading_lists::feed(r, b"\n", coordinates, numbers, parts);
-    reading_lists::finish(r)
-}
 
 // So many entries, or as many as there are.
 fn at_most(wanted: u64, there: usize) -> usize
@@ -126,19 +83,16 @@ fn part_room() -> [u16; TETS]
     [0; TETS]
 }
 
-// The job `pack`, with lists lent for what is read.
-fn pack_by(
-    out: &mut [u8],
-    coordinates: &mut [i32],
-    numbers: &mut [u16],
-    parts: &mut [u16],
-    room: &mut [u8],
-)
+// The job, with a text to read pieces of the input to and room for the file.
+pub fn pack(out: &mut [u8], room: &mut [u8])
     requires { ⌜ length (now out) ≡ 65536 ⌝ }
 {
-    let said = read_text(out, coordinates, numbers, parts);
+    let mut coordinates = coordinate_room();
+    let mut numbers = number_room();
+    let mut parts = part_room();
+    let said = input::read_text(out, &mut coordinates, &mut numbers, &mut parts);
     match said {
-        Said::Lists { n, t } => show_packed(out, coordinates, numbers, parts, n, t, room),
+        Said::Lists { n, t } => show_packed(out, &coordinates, &numbers, &parts, n, t, room),
         Said::Wrong {
             fault,
             line,
@@ -146,13 +100,4 @@ fn pack_by(
             wanted,
         } => tell_wrong(out, fault, line, before, wanted),
     }
-}
-
-pub fn pack(out: &mut [u8], room: &mut [u8])
-    requires { ⌜ length (now out) ≡ 65536 ⌝ }
-{
-    let mut coordinates = coordinate_room();
-    let mut numbers = number_room();
-    let mut parts = part_room();
-    pack_by(out, &mut coordinates, &mut numbers, &mut parts, room);
 }

@@ -1,10 +1,10 @@
--- `pack_job::read_text` meets its contract. Assumes nothing.
+-- `input::read_text` meets its contract. Assumes nothing.
 use borrow.Author.Needs.{needs}
 use mathlib.Core.Path.{_≡_}
 use native.Mathlib.Omega.{arith}
 use lib.ListN.{length}
-use Rattle.pack_job.proofs.read_text.Statement.{statement}
-use Rattle.pack_job.proofs.read_text.Tie as tie
+use Rattle.input.proofs.read_text.Statement.{statement}
+use Rattle.input.proofs.read_text.Tie as tie
 
 abbrev Inv-loop : tie.InvT-loop
 Inv-loop text₀ coordinates₀ numbers₀ parts₀ r₀ turns₀ t8 text coordinates numbers parts r turns =

@@ -1,9 +1,9 @@
--- `pack_job::put_two` meets its contract. Assumes nothing.
+-- `output::put_two` meets its contract. Assumes nothing.
 use native.Mathlib.Omega.{arith}
 use Rattle.lines.proofs.Numbers.{spaced-length}
 use borrow.Author.Needs.{needs}
-use Rattle.pack_job.proofs.put_two.Statement.{statement}
-use Rattle.pack_job.proofs.put_two.Tie as tie
+use Rattle.output.proofs.put_two.Statement.{statement}
+use Rattle.output.proofs.put_two.Tie as tie
 
 put-number-requires : tie.Need-put-number-requires
 put-number-requires c κs = search needs
