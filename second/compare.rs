@@ -634,13 +634,13 @@ fn parts() -> Vec<Part> {
         Part::Other("kinds", |c| c.kinds()),
         Part::Other("refusals", |c| c.refusals()),
         Part::Other("pack-damaged", |c| c.pack_damaged()),
-        Part::Other("pack-lists", |c| c.pack_lists()),
         Part::Other("pack-texts", |c| c.pack_texts()),
-        Part::Other("pack-round", |c| c.pack_round()),
         Part::Other("truncated", |c| c.truncated()),
         Part::Other(LONGEST_PART, |c| c.damaged()),
     ];
     parts.extend(FAMILIES.iter().map(Part::Meshes));
+    parts.push(Part::Other("pack-lists", |c| c.pack_lists()));
+    parts.push(Part::Other("pack-round", |c| c.pack_round()));
     parts.push(Part::Other("chains", |c| c.chains()));
     parts
 }
