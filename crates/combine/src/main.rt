@@ -3,7 +3,8 @@
 // With no word: the cells of a mesh. A line `mesh` with the counts, a line for each cell, and `end` with their number.
 // With ten, which are a mark (a kind and eight numbers) and how many cells there is room for: the cells after the mark,
 // at most that many, and then `end` with how many those were, where none remain, or `mark` with the mark to go on from.
-// A refusal is `refused` with its number. With `pack` or `unpack`: lists to a mesh file, or back (`pack_job`, `unpack_job`).
+// A refusal is `refused` with its number.
+// With `pack` or `unpack`: lists to a mesh file, or back (`pack_job`, `unpack_job`).
 //
 // What is listed is the promise of `listing::portion`, and what a line says that of `lines`; here stand only the calls
 // and the writing. A write that fails ends a listing at once, so that no last line follows a cell that was lost.

@@ -1,5 +1,5 @@
--- The file that lists make: what `layout` reads, written. cs are the coordinates, three a vertex; ls the vertex numbers,
--- four a tetrahedron; ps the parts, one a tetrahedron.
+-- The file that lists make: what `layout` reads, written. cs are the coordinates, three a vertex; ls the vertex
+-- numbers, four a tetrahedron; ps the parts, one a tetrahedron.
 -- Assumes nothing.
 use Prim.Native.Nat.{ℕ, _+_, _*_, _/_, _%_, _-_}
 use mathlib.Core.List.{List, [], _∷_, _++_}

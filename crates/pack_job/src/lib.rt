@@ -2,9 +2,9 @@
 // promise of `reading_lists`, and which file lists make that of `packing::write`; here stand only the reading and the
 // writing.
 //
-// Where there is no file, nothing is written there, and a line on standard error says why: `refused` with its number, or
-// `wrong` with a text's fault, its line, how many numbers stand before it and how many are wanted; or `lost`, where the
-// file could not be written.
+// Where there is no file, nothing is written there, and a line on standard error says why: `refused` with its number,
+// or `wrong` with a text's fault, its line, how many numbers stand before it and how many are wanted; or `lost`, where
+// the file could not be written.
 use libc::STDOUT_FILENO;
 use output::show;
 use output::tell_lost;

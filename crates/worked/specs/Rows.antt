@@ -1,6 +1,6 @@
 -- The meshes worked by hand, in one table of questions and answers under one claim: their full lists and tuples that
--- fail; least forms; from the bytes of their files the check's answer, calls of `portion` and boxes; and from lists their
--- files.
+-- fail; least forms; from the bytes of their files the check's answer, calls of `portion` and boxes; and from lists
+-- their files.
 -- Assumes nothing.
 use Prim.Native.Nat.{ℕ}
 use mathlib.Core.Path.{_≡_}

@@ -1,4 +1,5 @@
--- `encoding::put_points` meets its contract. The loop's invariant: the coordinates passed are laid from 24 on. Assumes nothing.
+-- `encoding::put_points` meets its contract. The loop's invariant: the coordinates passed are laid from 24 on.
+-- Assumes nothing.
 use mathlib.Core.Path.{refl, sym, ap, _∙_}
 use mathlib.Core.List.{_++_}
 use Prim.Native.Nat.{_-_, _≤_}

@@ -1,4 +1,5 @@
--- `encoding::put_tets` meets its contract. The loop's invariant: the tetrahedra passed are laid from `from` on. Assumes nothing.
+-- `encoding::put_tets` meets its contract. The loop's invariant: the tetrahedra passed are laid from `from` on.
+-- Assumes nothing.
 use mathlib.Core.Path.{_≡_, refl, ap}
 use Prim.Native.Nat.{_-_, _≤_}
 use native.Mathlib.Omega.{arith}
