@@ -1,6 +1,6 @@
 // The job `pack`: lists as plain text on standard input to a mesh file on standard output. What a text says is the
-// promise of `reading_lists`, and which file lists make that of `packing::write`; here stand only the reading and the
-// writing.
+// promise of `reading_lists`, and which file lists make that of `packing_front::write_front`; here stand only the
+// reading and the writing.
 //
 // Where there is no file, nothing is written there, and a line on standard error says why: `refused` with its number,
 // or `wrong` with a text's fault, its line, how many numbers stand before it and how many are wanted; or `lost`, where
@@ -11,28 +11,15 @@ use output::tell_lost;
 use output::tell_refused;
 use output::tell_wrong;
 use packing::Written;
+use packing_front::COORDINATES;
+use packing_front::NUMBERS;
+use packing_front::TETS;
 use reading_lists::Said;
-ghost use Prim.Native.Nat.{_≤_};
 ghost use mathlib.Core.Path.{_≡_};
 ghost use lib.ListN.{length};
-
-// More than the lists of any file that is accepted: longer ones make a file that is too long, whatever they say.
-const COORDINATES: usize = 3 * 2219;
-
-const TETS: usize = 2663;
+ghost use Rattle.packing_front.specs.between.Roomy.{Roomy};
 
 // ---- the lists, and their file
-
-// So many entries, or as many as there are.
-fn at_most(wanted: u64, there: usize) -> usize
-    ensures { λ r. ⌜ r ≤ there ⌝ }
-{
-    if wanted < there as u64 {
-        wanted as usize
-    } else {
-        there
-    }
-}
 
 // Packs the lists of n vertices and t tetrahedra into the room and writes the file.
 fn show_packed(
@@ -45,11 +32,9 @@ fn show_packed(
     room: &mut [u8],
 )
     requires { ⌜ length (now out) ≡ 65536 ⌝ }
+    requires { ⌜ Roomy (now coordinates) (now numbers) (now parts) ⌝ }
 {
-    let c = at_most(3 * (n as u64), coordinates.len());
-    let l = at_most(4 * (t as u64), numbers.len());
-    let p = at_most(t as u64, parts.len());
-    let answer = packing::write(&coordinates[..c], &numbers[..l], &parts[..p], room);
+    let answer = packing_front::write_front(coordinates, numbers, parts, n, t, room);
     match answer {
         Written::Whole(size) => show_file(room, size),
         Written::Refused(number) => tell_refused(out, number),
@@ -71,10 +56,10 @@ fn coordinate_room() -> [i32; COORDINATES]
     [0; COORDINATES]
 }
 
-fn number_room() -> [u16; 4 * TETS]
+fn number_room() -> [u16; NUMBERS]
     ensures { λ r. ⌜ 10652 ≡ length r ⌝ }
 {
-    [0; 4 * TETS]
+    [0; NUMBERS]
 }
 
 fn part_room() -> [u16; TETS]

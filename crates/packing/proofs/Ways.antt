@@ -80,7 +80,7 @@ module _ (cs : List ℤ) (ls ps : List ℕ) (room : ℕ) where
   packed-long h g =
       packed-by h (stored-refused (fileOf cs ls ps) room (refused-length (fileOf cs ls ps) (length-wrong (fileOf cs ls ps) (omega (arith, file-long cs ls ps)))) (omega arith))
 
--- ---- what fitting lengths say
+-- ---- lengths that fit, and what they say
 
 pub record Fitting (c l p : ℕ) : Type 0 where
   pub threes : c ≡ 3 * (c / 3)
@@ -94,3 +94,7 @@ fit-says c l p e =
     let y = eqb-true (l % 4) 0 (and-right (eqb (c % 3) 0) (eqb (l % 4) 0) d) in
     let z = eqb-true p (l / 4) (and-right (eqb (c % 3) 0 && eqb (l % 4) 0) (eqb p (l / 4)) e) in
     record { threes = omega arith; fours = omega arith }
+
+pub fit-by : (c l p n : ℕ) → c ≡ 3 * n → l ≡ 4 * p → lengthsFit c l p ≡ true
+unfolding lengthsFit
+fit-by c l p n e d = rw (eq-eqb (c % 3) 0 (omega arith), eq-eqb (l % 4) 0 (omega arith), eq-eqb p (l / 4) (omega arith))

@@ -25,7 +25,7 @@ use Rattle.encoding.proofs.Lengths.{file-long}
 use Rattle.packing.specs.Packed.{lengthsFit, roomRefusals, listRefusals, writtenUnless, packed, roomAfter}
 use Rattle.packing.specs.declared.Written.{Written}
 use Rattle.packing.specs.declared.Written.the-variants.{Whole, Refused}
-use Rattle.packing.proofs.Ways.{stored-whole, refused-length, packed-by}
+use Rattle.packing.proofs.Ways.{stored-whole, refused-length, packed-by, fit-by}
 use Rattle.round_trips.specs.Inverse.{AllBelow, AllSigned, Listed, Says, WrittenWhole, Packs, Inverse}
 use Rattle.round_trips.proofs.Bytes.{file-below}
 use Rattle.round_trips.proofs.Numbers.{at-below}
@@ -79,10 +79,6 @@ kept-by cs ls ps room k a b d e =
       accepted = c;
       says = read-back cs ls ps (record { lengths = x; words = a; numbers = b; parts = d }) (omega arith);
     }
-
-fit-by : (c l p n : ℕ) → c ≡ 3 * n → l ≡ 4 * p → lengthsFit c l p ≡ true
-unfolding lengthsFit
-fit-by c l p n e d = rw (eq-eqb (c % 3) 0 (omega arith), eq-eqb (l % 4) 0 (omega arith), eq-eqb p (l / 4) (omega arith))
 
 -- ---- what an accepted file says
 
