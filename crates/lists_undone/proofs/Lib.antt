@@ -3,3 +3,4 @@ pub mod Spots
 pub mod Rests
 pub mod Printing
 pub mod Undoes
+pub mod Kept

@@ -1,2 +1,3 @@
-// Reading the text of lists undoes printing it, and a text may come in pieces.
+// Reading the text of lists undoes printing it, a text may come in pieces, and lent lists of any lengths hold the front
+// of what it says.
 // No code: specs/ has the statements, proofs/ the proofs.
