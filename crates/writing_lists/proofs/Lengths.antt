@@ -1,13 +1,14 @@
 -- How long the texts can be: 20 digits and a sign, and a space before the next number. Assumes nothing.
 use mathlib.Core.Path.{_≡_, refl, sym, ap}
 use mathlib.Core.List.{List, [], _∷_, _++_}
-use Prim.Native.Nat.{suc, _-_, _≤_}
+use Prim.Native.Nat.{suc, _+_, _*_, _-_, _≤_}
 use native.Mathlib.Omega.{arith}
 use lib.IntN.{ℤ, pos, negsuc}
-use lib.ListN.{length, getD, take, drop, length-take, length-drop}
+use lib.ListN.{length, getD, take, drop, length-append, length-take, length-drop}
 use lib.Seq.{take-all}
 use Rattle.base.specs.Lists.{spread}
 use Rattle.lines.proofs.Digits.{decimal-length}
+use Rattle.lines.proofs.Numbers.{spread-most}
 use Rattle.writing_lists.specs.Printed.{signedText, apart, lineOf}
 
 pub signed-length : (z : ℤ) → length (signedText z) ≤ 21
@@ -16,6 +17,18 @@ signed-length (negsuc k) = omega (arith, decimal-length (suc k))
 
 pub apart-length : (z : ℤ) → length (apart z) ≤ 22
 apart-length z = omega (arith, signed-length z)
+
+pub line-length : (zs : List ℤ) → length (lineOf zs) ≤ 22 * length zs + 1
+unfolding lineOf
+line-length [] = omega arith
+line-length (z ∷ zs) =
+    omega (
+      arith,
+      length-append (signedText z ++ spread apart zs) (10 ∷ []),
+      length-append (signedText z) (spread apart zs),
+      signed-length z,
+      spread-most apart 22 apart-length zs,
+    )
 
 -- ---- a line, by its first number and the others, as the code takes them
 

@@ -30,9 +30,16 @@ vertexRow cs v = getD cs (3 * v) (pos 0) ∷ getD cs (3 * v + 1) (pos 0) ∷ get
 abbrev pub tetRow : List ℕ → List ℕ → ℕ → List ℤ
 tetRow ls ps j = map pos (row4 ls j ++ getD ps j 0 ∷ [])
 
+-- the lines of the first n vertices, and those of the first t tetrahedra
+abbrev pub vertexLines : List ℤ → ℕ → List ℕ
+vertexLines cs n = spread (λ v. lineOf (vertexRow cs v)) (upTo n)
+
+abbrev pub tetLines : List ℕ → List ℕ → ℕ → List ℕ
+tetLines ls ps t = spread (λ j. lineOf (tetRow ls ps j)) (upTo t)
+
 -- the text of the lists
 unfoldable pub textOf : List ℤ → List ℕ → List ℕ → List ℕ
 textOf cs ls ps =
     lineOf (pos (length cs / 3) ∷ pos (length ps) ∷ [])
-    ++ spread (λ v. lineOf (vertexRow cs v)) (upTo (length cs / 3))
-    ++ spread (λ j. lineOf (tetRow ls ps j)) (upTo (length ps))
+    ++ vertexLines cs (length cs / 3)
+    ++ tetLines ls ps (length ps)
