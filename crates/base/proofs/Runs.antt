@@ -1,11 +1,13 @@
 -- Lists that grow at their end: maps, filters and spreads over a run of numbers. Assumes nothing.
 use mathlib.Core.Path.{_≡_, refl, sym, _∙_, ap}
 use mathlib.Core.Bool.{Bool, true, false, cond, _||_, or-false, or-assoc}
-use mathlib.Core.List.{List, [], _∷_, _++_, map, append-assoc, List·Memᴰ, List·Memᴰ·head, List·Memᴰ·tail}
+use mathlib.Core.List.{List, [], _∷_, _++_, map, append-assoc, append-nil, List·Memᴰ, List·Memᴰ·head, List·Memᴰ·tail}
 use Prim.Native.Nat.{ℕ, zero, suc, _+_, _≤_, _<_}
 use native.Mathlib.Nat.{zero-add, add-zero, suc-add, add-suc}
+use native.Mathlib.Numerals.{add-one}
 use native.Mathlib.Omega.{arith}
-use lib.ListN.{length, getD}
+use lib.ListN.{length, getD, take}
+use lib.Seq.{take-suc}
 use Rattle.base.specs.Lists.{any, keep, spread, from, upTo}
 
 module _ {A B : Type 0} where
@@ -13,6 +15,14 @@ module _ {A B : Type 0} where
   unfolding spread
   spread-append f [] ys = refl
   spread-append f (x ∷ xs) ys = ap (λ l. f x ++ l) (spread-append f xs ys) ∙ sym (append-assoc (f x) (spread f xs) (spread f ys))
+
+  -- one element more
+  pub spread-snoc : (f : A → List B) (xs : List A) (x : A) → spread f (xs ++ x ∷ []) ≡ spread f xs ++ f x
+  unfolding spread
+  spread-snoc f xs x = spread-append f xs (x ∷ []) ∙ ap (λ l. spread f xs ++ l) (append-nil (f x))
+
+  pub spread-more : (f : A → List B) (d : A) (xs : List A) (i : ℕ) → i < length xs → spread f (take (i + 1) xs) ≡ spread f (take i xs) ++ f (getD xs i d)
+  spread-more f d xs i h = ap (spread f) (rw (add-one, take-suc xs i d)) ∙ spread-snoc f (take i xs) (getD xs i d)
 
   pub map-append : (f : A → B) (xs ys : List A) → map f (xs ++ ys) ≡ map f xs ++ map f ys
   map-append f [] ys = refl
@@ -33,6 +43,10 @@ from-add i (suc a) b = rw (suc-add, add-suc) (ap (λ l. i ∷ l) (rw (from-add (
 -- one number more
 pub upTo-more : (u : ℕ) → upTo (u + 1) ≡ upTo u ++ u ∷ []
 upTo-more u = from-add 0 u 1 ∙ ap (λ k. upTo u ++ k ∷ []) (zero-add u)
+
+-- and the piece that it gives
+pub spread-up : {B : Type 0} (f : ℕ → List B) (u : ℕ) → spread f (upTo (u + 1)) ≡ spread f (upTo u) ++ f u
+spread-up f u = ap (spread f) (upTo-more u) ∙ spread-snoc f (upTo u) u
 
 -- two tests that agree on a run keep the same
 pub keep-same : (p q : ℕ → Bool) (i k : ℕ) → ((x : ℕ) → x < i + k → p x ≡ q x) → keep p (from i k) ≡ keep q (from i k)

@@ -8,7 +8,7 @@ use native.Mathlib.Omega.{arith}
 use lib.IntN.{ℤ, pos, negsuc}
 use lib.Signed.{mag}
 use lib.ListN.{length}
-use Rattle.encoding.specs.File.{u16Bytes, u32Bytes, bitsOf}
+use Rattle.encoding.specs.File.{u16Bytes, bitsOf}
 
 pub u16-long : (n : ℕ) → length (u16Bytes n) ≡ 2
 unfolding u16Bytes

@@ -2,16 +2,14 @@
 -- list join to it.
 -- Assumes nothing.
 use mathlib.Core.Path.{_≡_, sym, _∙_, ap}
-use mathlib.Core.List.{List, [], _∷_, _++_, append-nil}
+use mathlib.Core.List.{List, [], _∷_, _++_}
 use Prim.Native.Nat.{ℕ, zero, suc, _+_, _*_, _<_}
 use native.Mathlib.Nat.{mul-zero, mul-suc, zero-add}
-use native.Mathlib.Numerals.{add-one}
 use native.Mathlib.Omega.{arith}
 use lib.ListN.{length, getD, take, drop, length-append, List·getD-append}
-use lib.Seq.{getD-append-add, take-add, drop-drop, take-suc}
+use lib.Seq.{getD-append-add, take-add, drop-drop}
 use Rattle.base.specs.Lists.{spread, from, upTo}
 use Rattle.base.proofs.Loop.{length-from}
-use Rattle.base.proofs.Runs.{spread-append, upTo-more}
 
 module _ {A : Type 0} (f : A → List ℕ) (w : ℕ) (even : (x : A) → length (f x) ≡ w) where
   pub length-spread : (xs : List A) → length (spread f xs) ≡ w * length xs
@@ -29,18 +27,6 @@ module _ {A : Type 0} (f : A → List ℕ) (w : ℕ) (even : (x : A) → length 
   spread-at (x ∷ xs) d (suc j) k h g =
       let e : w * suc j + k ≡ length (f x) + (w * j + k) = omega (arith, even x, mul-suc w j) in
       ap (λ i. getD (f x ++ spread f xs) i 0) e ∙ getD-append-add (f x) (spread f xs) (w * j + k) 0 ∙ spread-at xs d j k (omega arith) g
-
--- one piece more
-module _ {A : Type 0} (f : A → List ℕ) where
-  more : (xs : List A) (x : A) → spread f (xs ++ x ∷ []) ≡ spread f xs ++ f x
-  unfolding spread
-  more xs x = spread-append f xs (x ∷ []) ∙ ap (λ l. spread f xs ++ l) (append-nil (f x))
-
-  pub spread-take : (xs : List A) (d : A) (k : ℕ) → k < length xs → spread f (take (k + 1) xs) ≡ spread f (take k xs) ++ f (getD xs k d)
-  spread-take xs d k h = rw (add-one, take-suc xs k d h) (more (take k xs) (getD xs k d))
-
-pub spread-up : (f : ℕ → List ℕ) (j : ℕ) → spread f (upTo (j + 1)) ≡ spread f (upTo j) ++ f j
-spread-up f j = ap (spread f) (upTo-more j) ∙ more f (upTo j) j
 
 getD-run : (i n j : ℕ) → j < n → getD (from i n) j 0 ≡ i + j
 getD-run i zero j h = absurd (omega arith)

@@ -1,15 +1,15 @@
 -- A list of numbers as text, one number more at a time. Assumes nothing.
-use mathlib.Core.Path.{_≡_, refl, sym, _∙_, ap}
-use mathlib.Core.List.{List, [], _∷_, _++_, append-assoc, append-nil}
+use mathlib.Core.Path.{_≡_, refl, ap}
+use mathlib.Core.List.{List, [], _∷_, _++_}
 use Prim.Native.Nat.{ℕ, _+_, _*_, _≤_, _<_}
-use native.Mathlib.Numerals.{add-one}
 use native.Mathlib.Omega.{arith}
 use native.Mathlib.Nat.{mul-suc}
 use Prim.Native.Nat.{min}
 use lib.ListN.{length, getD, take, drop, length-append, length-take}
 use Rattle.base.specs.Laid.{Laid}
 use Rattle.base.proofs.Lay.{laid-more}
-use lib.Seq.{take-suc, length-take-le}
+use Rattle.base.proofs.Runs.{spread-more}
+use lib.Seq.{length-take-le}
 use Rattle.base.specs.Lists.{spread}
 use Rattle.record.specs.Entries.{cornerPlaces, tetPlaces, countAt, tetsAt}
 use Rattle.lines.specs.Text.{decimal, spaced, numbers, cornersText, tetsText, cellLine, cornersMost, tetsMost, lineMost}
@@ -21,14 +21,6 @@ spaced-length x = omega (arith, decimal-length x)
 
 -- the texts of a list's elements, one behind the other
 module _ {A : Type 0} (f : A → List ℕ) where
-  spread-snoc : (xs : List A) (x : A) → spread f (xs ++ x ∷ []) ≡ spread f xs ++ f x
-  unfolding spread
-  spread-snoc [] x = append-nil (f x)
-  spread-snoc (y ∷ ys) x = ap (λ l. f y ++ l) (spread-snoc ys x) ∙ sym (append-assoc (f y) (spread f ys) (f x))
-
-  pub spread-more : (d : A) (l : List A) (i : ℕ) → i < length l → spread f (take (i + 1) l) ≡ spread f (take i l) ++ f (getD l i d)
-  spread-more d l i h = ap (spread f) (rw (add-one, take-suc l i d)) ∙ spread-snoc (take i l) (getD l i d)
-
   pub spread-nil : spread f [] ≡ []
   unfolding spread
   spread-nil = refl

@@ -1,7 +1,7 @@
 -- The laws of `specs/Kept.antt` hold. Assumes nothing.
 use mathlib.Core.Path.{_≡_, refl, sym, _∙_, ap}
 use mathlib.Core.Bool.{Bool, true, false, cond}
-use mathlib.Core.List.{List, [], _∷_}
+use mathlib.Core.List.{List, [], _∷_, _++_}
 use Prim.Native.Nat.{ℕ, zero, suc, _*_}
 use native.Mathlib.Decide.{decLt}
 use native.Mathlib.Omega.{arith}
@@ -111,9 +111,10 @@ read-fronts (b ∷ x) r cs₀ cs₁ ls₀ ls₁ ps₀ ps₁ f g h =
 
 read-said : (x : List ℕ) (n t c l p : ℕ) → KeptOf x n t c l p
 read-said x n t c l p =
-    let a = read-lengths x (reading begun (replicate c (pos 0)) (replicate l 0) (replicate p 0)) in
-    let b = read-lengths x (reading begun (replicate (3 * n) (pos 0)) (replicate (4 * t) 0) (replicate t 0)) in
-    let f = read-fronts x begun _ _ _ _ _ _ (replicate-front c (3 * n) (pos 0)) (replicate-front l (4 * t) 0) (replicate-front p t 0) in
+    let y = x ++ 10 ∷ [] in
+    let a = read-lengths y (reading begun (replicate c (pos 0)) (replicate l 0) (replicate p 0)) in
+    let b = read-lengths y (reading begun (replicate (3 * n) (pos 0)) (replicate (4 * t) 0) (replicate t 0)) in
+    let f = read-fronts y begun _ _ _ _ _ _ (replicate-front c (3 * n) (pos 0)) (replicate-front l (4 * t) 0) (replicate-front p t 0) in
     record {
       reader = f .reader;
       coordinates = a .coordinates ∙ length-replicate c (pos 0);

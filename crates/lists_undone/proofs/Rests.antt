@@ -60,6 +60,11 @@ pub record Rests (k n t : ℕ) (cs : List ℤ) (ls ps : List ℕ) (s : Reading) 
   pub line : ℕ
   pub is : s ≡ reading (atRest line k n t) cs ls ps
 
+-- a line end more
+pub end-rests : {k n t : ℕ} {cs : List ℤ} {ls ps : List ℕ} {s : Reading} → Rests k n t cs ls ps s → Rests k n t cs ls ps (readAll (10 ∷ []) s)
+unfolding read1 next closed passed endsNumber
+end-rests r = record { line = lineBehind (r .line) 10; is = ap (read1 10) (r .is) ∙ rw (newline .ends, newline .silent) }
+
 most-coordinate : (z : ℤ) (k : ℕ) → mag z < 2147483648 → natAbs z ≤ most (Coordinate k) (below0 z)
 most-coordinate (pos x) k h = omega arith
 most-coordinate (negsuc x) k h = omega arith

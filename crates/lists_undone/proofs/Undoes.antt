@@ -12,11 +12,11 @@ use Rattle.base.specs.Lists.{spread, from, upTo}
 use Rattle.writing_lists.specs.Printed.{signedText, lineOf, vertexRow, tetRow, textOf}
 use Rattle.reading_words.specs.Steps.{begun}
 use Rattle.reading_lists.specs.declared.Said.the-variants.{Lists}
-use Rattle.reading_lists.specs.Reading.{Reading, reading, readAll, saidBy}
+use Rattle.reading_lists.specs.Reading.{Reading, reading, readAll, readText, saidBy}
 use Rattle.reading_lists.proofs.Pieces.{read-pieces}
 use Rattle.lists_undone.specs.Undone.{Typed, Held, Texts}
 use Rattle.lists_undone.proofs.Readers.{atRest}
-use Rattle.lists_undone.proofs.Rests.{Separates, space, newline, Rests, first-rests, second-rests, coordinate-rests, label-rests, part-rests}
+use Rattle.lists_undone.proofs.Rests.{Separates, space, newline, Rests, end-rests, first-rests, second-rests, coordinate-rests, label-rests, part-rests}
 use Rattle.lists_undone.proofs.Printing.{line-one, line-more, over, over-next, over-all}
 
 -- ---- a line, and lines
@@ -116,20 +116,20 @@ module _ (cs cs₀ : List ℤ) (ls ls₀ ps ps₀ : List ℕ) (n t : ℕ) (y : T
   unfolding textOf vertexText tetText
   text-is = let e : length cs / 3 ≡ n = omega (arith, y .coordinates) in rw (e, y .parts)
 
-  whole : Tets (2 + 3 * n + 5 * t) (4 * t) t (readAll (textOf cs ls ps) (reading begun cs₀ ls₀ ps₀))
+  whole : Tets (2 + 3 * n + 5 * t) (4 * t) t (readText (textOf cs ls ps) (reading begun cs₀ ls₀ ps₀))
   unfolding vertexText tetText
   whole =
       let s = reading begun cs₀ ls₀ ps₀ in
       let c = lineOf (pos n ∷ pos t ∷ []) in
       let v = pieces-rest c vertexText s (vertices n 0 (readAll c s) (omega arith) (counts s (record { line = 1; is = refl }))) in
       let w = tets t 0 (readAll (c ++ vertexText) s) (omega arith) (rw (add-zero (2 + 3 * n)) v) in
-      rw text-is (pieces-rest (c ++ vertexText) tetText s w)
+      pieces-rest (textOf cs ls ps) (10 ∷ []) s (end-rests (rw text-is (pieces-rest (c ++ vertexText) tetText s w)))
 
   all-said : (l : ℕ) → saidBy (atRest l (2 + 3 * n + 5 * t) n t) ≡ Lists n t
   unfolding saidBy
   all-said l = rw (le-ltb (2 + 3 * n + 5 * t) (2 + 3 * n + 5 * t) (omega arith))
 
-  held : Held cs cs₀ ls ls₀ ps ps₀ n t (readAll (textOf cs ls ps) (reading begun cs₀ ls₀ ps₀))
+  held : Held cs cs₀ ls ls₀ ps ps₀ n t (readText (textOf cs ls ps) (reading begun cs₀ ls₀ ps₀))
   held = record {
     said = ap (λ s. saidBy (s .reader)) (whole .is) ∙ all-said (whole .line);
     coordinates = ap (λ s. s .coordinates) (whole .is) ∙ ap (over cs cs₀) (sym (y .coordinates)) ∙ over-all cs cs₀;

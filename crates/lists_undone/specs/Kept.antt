@@ -8,12 +8,12 @@ use lib.IntN.{ℤ, pos}
 use lib.ListN.{length, replicate}
 use Rattle.reading_words.specs.declared.Reader.{Reader}
 use Rattle.reading_words.specs.Steps.{begun}
-use Rattle.reading_lists.specs.Reading.{Reading, reading, readAll}
+use Rattle.reading_lists.specs.Reading.{Reading, reading, readAll, readText}
 use Rattle.packing_front.specs.Front.{IsFront, Fronts}
 
 -- a text read from its beginning into lists of c coordinates, l vertex numbers and p parts, each 0
 abbrev pub readInto : List ℕ → ℕ → ℕ → ℕ → Reading
-readInto x c l p = readAll x (reading begun (replicate c (pos 0)) (replicate l 0) (replicate p 0))
+readInto x c l p = readText x (reading begun (replicate c (pos 0)) (replicate l 0) (replicate p 0))
 
 -- the lists that a text of n vertices and t tetrahedra says, each number at its place
 abbrev pub listsSaid : List ℕ → ℕ → ℕ → Reading

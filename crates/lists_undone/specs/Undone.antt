@@ -8,7 +8,7 @@ use lib.Signed.{mag}
 use lib.ListN.{length, getD, drop}
 use Rattle.writing_lists.specs.Printed.{textOf}
 use Rattle.reading_words.specs.Steps.{begun}
-use Rattle.reading_lists.specs.Reading.{Reading, reading, readAll, saidBy}
+use Rattle.reading_lists.specs.Reading.{Reading, reading, readAll, readText, saidBy}
 use Rattle.reading_lists.specs.declared.Said.the-variants.{Lists}
 
 -- lists of n vertices and t tetrahedra, each entry of which fits its type
@@ -34,7 +34,7 @@ Undone =
     (cs cs₀ : List ℤ) (ls ls₀ ps ps₀ : List ℕ) (n t : ℕ)
     → Typed cs ls ps n t
     → length cs ≤ length cs₀ → length ls ≤ length ls₀ → length ps ≤ length ps₀
-    → Held cs cs₀ ls ls₀ ps ps₀ n t (readAll (textOf cs ls ps) (reading begun cs₀ ls₀ ps₀))
+    → Held cs cs₀ ls ls₀ ps ps₀ n t (readText (textOf cs ls ps) (reading begun cs₀ ls₀ ps₀))
 
 -- a text may come in pieces
 abbrev pub InPieces : Type 0

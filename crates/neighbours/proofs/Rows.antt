@@ -11,7 +11,7 @@ use lib.ListN.{length, length-append, length-map}
 use Rattle.base.specs.Lists.{keep, spread, from, upTo}
 use Rattle.base.proofs.Lists.{keep-append}
 use Rattle.base.proofs.Loop.{length-from}
-use Rattle.base.proofs.Runs.{spread-append, map-append, from-add, upTo-more, keep-same}
+use Rattle.base.proofs.Runs.{spread-append, spread-up, map-append, from-add, upTo-more, keep-same}
 use Rattle.neighbours.specs.Table.{neighbourRow, firstRows, offsets, tableBy}
 use Rattle.matrix.specs.between.Matrix.{nextTo}
 use Rattle.neighbours.specs.between.Grown.{partOf}
@@ -68,8 +68,8 @@ module _ (row : ℕ → List ℕ) where
   rows-none = refl
 
   pub rows-more : (u : ℕ) → firstRows row (u + 1) ≡ firstRows row u ++ row u
-  unfolding firstRows spread
-  rows-more u = ap (spread row) (upTo-more u) ∙ spread-append row (upTo u) (u ∷ []) ∙ ap (λ l. firstRows row u ++ l) (append-nil (row u))
+  unfolding firstRows
+  rows-more u = spread-up row u
 
   pub rows-up : (u : ℕ) → length (firstRows row (u + 1)) ≡ length (firstRows row u) + length (row u)
   rows-up u = ap length (rows-more u) ∙ length-append (firstRows row u) (row u)

@@ -4,6 +4,7 @@ use libc::STDOUT_FILENO;
 use lines::put_number;
 use lines::put_numbers;
 use lines::put_text;
+use packing::Written;
 ghost use Prim.Native.Nat.{_+_, _≤_};
 ghost use mathlib.Core.Path.{_≡_};
 ghost use lib.ListN.{length};
@@ -50,7 +51,7 @@ pub fn flushed(out: &[u8], at: usize) -> usize
     }
 }
 
-// ---- on standard error: why there is no answer
+// ---- a job's answer; on standard error, why there is none
 
 // That it was refused, with this number.
 pub fn tell_refused(out: &mut [u8], number: u8)
@@ -62,6 +63,25 @@ pub fn tell_refused(out: &mut [u8], number: u8)
 // That it could not be written.
 pub fn tell_lost() {
     io::write_all(STDERR_FILENO, b"lost\n");
+}
+
+// Writes what stands at the front of a room by this answer to standard output, or tells why nothing does.
+pub fn show_written(out: &mut [u8], room: &[u8], answer: Written)
+    requires { ⌜ length (now out) ≡ 65536 ⌝ }
+{
+    match answer {
+        Written::Whole(size) => show_front(room, size),
+        Written::Refused(number) => tell_refused(out, number),
+    }
+}
+
+fn show_front(room: &[u8], size: usize) {
+    if size <= room.len() {
+        if show(STDOUT_FILENO, room, size) {
+            return;
+        }
+    }
+    tell_lost();
 }
 
 // Puts two numbers, each with a space before it.

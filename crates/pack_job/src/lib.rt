@@ -5,12 +5,8 @@
 // Where there is no file, nothing is written there, and a line on standard error says why: `refused` with its number,
 // or `wrong` with a text's fault, its line, how many numbers stand before it and how many are wanted; or `lost`, where
 // the file could not be written.
-use libc::STDOUT_FILENO;
-use output::show;
-use output::tell_lost;
-use output::tell_refused;
+use output::show_written;
 use output::tell_wrong;
-use packing::Written;
 use packing_front::COORDINATES;
 use packing_front::NUMBERS;
 use packing_front::TETS;
@@ -35,19 +31,7 @@ fn show_packed(
     requires { ⌜ Roomy (now coordinates) (now numbers) (now parts) ⌝ }
 {
     let answer = packing_front::write_front(coordinates, numbers, parts, n, t, room);
-    match answer {
-        Written::Whole(size) => show_file(room, size),
-        Written::Refused(number) => tell_refused(out, number),
-    }
-}
-
-fn show_file(file: &[u8], size: usize) {
-    if size <= file.len() {
-        if show(STDOUT_FILENO, file, size) {
-            return;
-        }
-    }
-    tell_lost();
+    show_written(out, room, answer);
 }
 
 fn coordinate_room() -> [i32; COORDINATES]

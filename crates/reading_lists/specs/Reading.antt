@@ -2,7 +2,7 @@
 -- Assumes nothing.
 use Prim.Native.Nat.{ℕ}
 use mathlib.Core.Bool.{not, cond}
-use mathlib.Core.List.{List, [], _∷_}
+use mathlib.Core.List.{List, [], _∷_, _++_}
 use lib.Dec.{eqb, ltb}
 use lib.IntN.{ℤ, pos, negℤ}
 use lib.ListN.{set}
@@ -63,6 +63,10 @@ read1 b s = record {
 abbrev pub readAll : List ℕ → Reading → Reading
 readAll [] s = s
 readAll (b ∷ bs) s = readAll bs (read1 b s)
+
+-- a whole text: its last word may stand without a line end
+abbrev pub readText : List ℕ → Reading → Reading
+readText x s = readAll (x ++ 10 ∷ []) s
 
 -- what a reader behind the last line end tells
 unfoldable pub saidBy : Reader → Said

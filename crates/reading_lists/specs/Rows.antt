@@ -9,7 +9,7 @@ use lib.ListN.{length, replicate}
 use Rattle.reading_lists.specs.declared.Said.{Said}
 use Rattle.reading_lists.specs.declared.Said.the-variants.{Lists, Wrong}
 use Rattle.reading_words.specs.Steps.{begun}
-use Rattle.reading_lists.specs.Reading.{Reading, reading, readAll, saidBy}
+use Rattle.reading_lists.specs.Reading.{Reading, reading, readText, saidBy}
 
 -- what is said, and what the lent lists hold
 pub record TextOutcome : Type 0 where
@@ -29,10 +29,10 @@ textRow xs a cs ls ps = record { text = xs; outcome = record { said = a; coordin
 abbrev lent : TextOutcome → Reading
 lent o = reading begun (replicate (length (o .coordinates)) (pos 9)) (replicate (length (o .labels)) 9) (replicate (length (o .parts)) 9)
 
--- the text and a line end, read into such lists
+-- the text, read into such lists
 unfoldable pub outcomeOf : TextRow → TextOutcome
 outcomeOf r =
-    let s = readAll (r .text ++ 10 ∷ []) (lent (r .outcome)) in
+    let s = readText (r .text) (lent (r .outcome)) in
     record { said = saidBy (s .reader); coordinates = s .coordinates; labels = s .labels; parts = s .parts }
 
 -- a text that reads into no lists

@@ -6,17 +6,17 @@ use mathlib.Core.List.{List, [], _∷_, _++_, map}
 use Prim.Native.Nat.{ℕ, _+_, _*_, _/_, _%_, _≤_, _<_}
 use native.Mathlib.Decide.{decLt}
 use native.Mathlib.Omega.{arith}
-use lib.Dec.{eqb, leb, ltb}
+use lib.Dec.{eqb, ltb}
 use lib.IntN.{ℤ, pos, negsuc, natAbs}
 use lib.Signed.{mag}
 use lib.ListN.{length, getD}
-use borrow.Author.Tests.{eqb-true, ltb-true, ltb-false, eq-eqb, ne-eqb, le-ltb, not-false}
+use borrow.Author.Tests.{eqb-true, ltb-true, ltb-false, eq-eqb, not-false}
 use Rattle.base.specs.Lists.{any, upTo}
 use Rattle.base.specs.Refusals.{Refusal, refuse, firstOf}
 use Rattle.base.proofs.Refusals.{numbered, passed, first-past, first-told}
 use Rattle.base.proofs.Loop.{getD-up, getD-past}
 use Rattle.layout.specs.Bytes.{u16At, u32At}
-use Rattle.layout.specs.Layout.{vertices, tets, lengthRight, countsRight, layoutRight, vertexPart, tetPart, labelsIn, partsIn, coordsOf, labelsOf, partsOf}
+use Rattle.layout.specs.Layout.{vertices, tets, lengthRight, layoutRight, vertexPart, tetPart, labelsIn, partsIn, coordsOf, labelsOf, partsOf}
 use Rattle.layout.proofs.Framed.{length-says, coords-long, labels-long, parts-long}
 use Rattle.arrays.specs.Refusals.{refusals, refusal}
 use Rattle.arrays.proofs.Accepted.{accepted-gives}
@@ -26,7 +26,7 @@ use Rattle.packing.specs.Packed.{lengthsFit, roomRefusals, listRefusals, writte
 use Rattle.packing.specs.declared.Written.{Written}
 use Rattle.packing.specs.declared.Written.the-variants.{Whole, Refused}
 use Rattle.packing.proofs.Ways.{stored-whole, refused-length, packed-by, fit-by}
-use Rattle.round_trips.specs.Inverse.{AllBelow, AllSigned, Listed, Says, WrittenWhole, Packs, Inverse}
+use Rattle.round_trips.specs.Inverse.{AllBelow, AllSigned, Listed, WrittenWhole, Packs, Inverse}
 use Rattle.round_trips.proofs.Bytes.{file-below}
 use Rattle.round_trips.proofs.Numbers.{at-below}
 use Rattle.round_trips.proofs.Reading.{vertices-is, tets-is, offset-is, corner-is, total-is, none-is, read-back}

@@ -1,18 +1,13 @@
 -- Reading what lists make gives the lists. Assumes nothing.
 use mathlib.Core.Path.{_≡_, refl, sym, _∙_, ap}
-use mathlib.Core.Bool.{true, _&&_}
 use mathlib.Core.List.{List, _++_}
 use Prim.Native.Nat.{ℕ, zero, suc, _+_, _*_, _/_, _%_, _<_}
 use native.Mathlib.Omega.{arith}
-use lib.Dec.{eqb}
 use lib.IntN.{ℤ, pos}
 use lib.Signed.{mag}
-use lib.ListN.{length, getD, drop, length-append, List·getD-append}
+use lib.ListN.{length, getD, drop, List·getD-append}
 use lib.Seq.{ext-getD, drop-at, drop-drop}
-use borrow.Author.Tests.{eqb-true}
-use Rattle.base.specs.Lists.{spread, upTo}
-use Rattle.base.proofs.Bools.{and-left, and-right}
-use Rattle.base.proofs.Loop.{length-from}
+use Rattle.base.specs.Lists.{spread}
 use Rattle.layout.specs.Bytes.{u16At, u32At, signed32, i32At}
 use Rattle.layout.specs.Layout.{vertices, tets, vertexPart, tetPart, coordsIn, labelsIn, partsIn}
 use Rattle.layout.proofs.Framed.{coords-long, labels-long, parts-long}

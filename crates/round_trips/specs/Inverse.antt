@@ -3,10 +3,10 @@
 use Prim.Native.Nat.{ℕ, _/_, _≤_, _<_}
 use mathlib.Core.Path.{_≡_}
 use mathlib.Core.Bool.{true}
-use mathlib.Core.List.{List, _++_}
+use mathlib.Core.List.{List}
 use lib.IntN.{ℤ, pos}
 use lib.Signed.{mag}
-use lib.ListN.{length, getD, drop}
+use lib.ListN.{length, getD}
 use Rattle.layout.specs.Layout.{vertices, tets, coordsOf, labelsOf, partsOf}
 use Rattle.arrays.specs.Refusals.{refusal}
 use Rattle.encoding.specs.File.{fileOf}

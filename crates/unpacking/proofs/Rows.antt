@@ -1,5 +1,5 @@
 -- Lines of a table's rows, one more at a time, and how long they can be. Assumes nothing.
-use mathlib.Core.Path.{_≡_, refl, sym, _∙_, ap}
+use mathlib.Core.Path.{_≡_, _∙_, ap}
 use mathlib.Core.List.{List, [], _∷_, map}
 use Prim.Native.Nat.{ℕ, suc, _+_, _*_, _-_, _≤_, _<_}
 use native.Mathlib.Omega.{arith}
@@ -12,9 +12,9 @@ use Rattle.base.specs.Laid.{Laid}
 use Rattle.base.specs.Lists.{spread, upTo}
 use Rattle.base.proofs.Lay.{laid-none}
 use Rattle.base.proofs.Loop.{length-from}
+use Rattle.base.proofs.Runs.{spread-up}
 use Rattle.base.proofs.Signed.{toZ-pos}
 use Rattle.lines.proofs.Numbers.{behind, spread-nil, spread-most}
-use Rattle.encoding.proofs.Strides.{spread-up}
 use Rattle.writing_lists.specs.Printed.{lineOf, vertexRow, tetRow}
 use Rattle.writing_lists.proofs.Lengths.{line-length}
 use Rattle.unpacking.specs.between.Sizes.{vertexLine, tetLine}

@@ -14,7 +14,8 @@ use Rattle.base.specs.Lists.{spread}
 use Rattle.base.specs.Laid.{Laid}
 use Rattle.base.proofs.Lay.{laid-none, laid-more, laid-as}
 use Rattle.encoding.specs.File.{u32Bytes, bitsOf, i32Bytes, coordBytes}
-use Rattle.encoding.proofs.Strides.{length-spread, spread-take}
+use Rattle.base.proofs.Runs.{spread-more}
+use Rattle.encoding.proofs.Strides.{length-spread}
 use Rattle.encoding.proofs.Lengths.{point-long}
 use Rattle.encoding.proofs.put_points.Statement.{statement}
 use Rattle.encoding.proofs.put_points.Tie as tie
@@ -57,7 +58,7 @@ loop-again : tie.Need-loop-again Inv-loop μ-loop
 unfolding i32Bytes
 loop-again c = let p = c .before .before in let l = p .before .before .before .before .before in let a = l .before .before .args in (
   omega arith,
-  laid-more (l .loop .inv .1) _ (omega (arith, length-spread i32Bytes 4 point-long (take (l .loop .k) (a .coordinates .now)), length-take-le (l .loop .k) (a .coordinates .now) (omega arith))) (p .put-u32 .ensures) (spread-take i32Bytes (a .coordinates .now) (pos 0) (l .loop .k) (omega arith) ∙ ap (λ n. coordBytes (take (l .loop .k) (a .coordinates .now)) ++ u32Bytes n) (sym (p .before .bits .ensures ∙ ap bitsOf (toZ-ofZ w32 (getD (a .coordinates .now) (l .loop .k) (pos 0)) (search needs))))),
+  laid-more (l .loop .inv .1) _ (omega (arith, length-spread i32Bytes 4 point-long (take (l .loop .k) (a .coordinates .now)), length-take-le (l .loop .k) (a .coordinates .now) (omega arith))) (p .put-u32 .ensures) (spread-more i32Bytes (pos 0) (a .coordinates .now) (l .loop .k) (omega arith) ∙ ap (λ n. coordBytes (take (l .loop .k) (a .coordinates .now)) ++ u32Bytes n) (sym (p .before .bits .ensures ∙ ap bitsOf (toZ-ofZ w32 (getD (a .coordinates .now) (l .loop .k) (pos 0)) (search needs))))),
 )
 
 same-length : tie.Need-same-length Inv-loop μ-loop

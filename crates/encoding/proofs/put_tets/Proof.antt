@@ -9,7 +9,8 @@ use Rattle.base.specs.Laid.{Laid}
 use Rattle.base.proofs.Lay.{laid-none, laid-more, laid-as}
 use Rattle.base.proofs.Loop.{length-from}
 use Rattle.encoding.specs.File.{tetBytes}
-use Rattle.encoding.proofs.Strides.{length-spread, spread-up}
+use Rattle.base.proofs.Runs.{spread-up}
+use Rattle.encoding.proofs.Strides.{length-spread}
 use Rattle.encoding.proofs.Lengths.{tet-long}
 use Rattle.encoding.proofs.put_tets.Statement.{statement}
 use Rattle.encoding.proofs.put_tets.Tie as tie

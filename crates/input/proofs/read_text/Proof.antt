@@ -1,7 +1,6 @@
 -- `input::read_text` meets its contract. Assumes nothing.
 use borrow.Author.Needs.{needs}
 use mathlib.Core.Path.{_≡_}
-use native.Mathlib.Omega.{arith}
 use lib.ListN.{length}
 use Rattle.input.proofs.read_text.Statement.{statement}
 use Rattle.input.proofs.read_text.Tie as tie

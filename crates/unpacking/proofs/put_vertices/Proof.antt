@@ -3,7 +3,6 @@
 use mathlib.Core.Path.{_≡_}
 use Prim.Native.Nat.{_-_, _≤_}
 use native.Mathlib.Omega.{arith}
-use lib.ListN.{length}
 use Rattle.writing_lists.specs.Printed.{lineOf, vertexRow}
 use Rattle.unpacking.proofs.Rows.{RowsLaid, no-rows, row-more, all-rows, rows-most, vertex-short}
 use Rattle.unpacking.proofs.put_vertices.Statement.{statement}

@@ -11,7 +11,8 @@ use lib.Seq.{take-all}
 use Rattle.base.specs.Laid.{Laid}
 use Rattle.base.specs.Lists.{spread}
 use Rattle.base.proofs.Lay.{laid-none, laid-as}
-use Rattle.lines.proofs.Numbers.{behind, spread-nil, spread-more, spread-part}
+use Rattle.base.proofs.Runs.{spread-more}
+use Rattle.lines.proofs.Numbers.{behind, spread-nil, spread-part}
 use Rattle.writing_lists.specs.Printed.{apart}
 use Rattle.writing_lists.proofs.Lengths.{apart-length}
 use Rattle.writing_lists.proofs.Sizes.{kept}

@@ -1,0 +1,1 @@
+// Theorems alone, in specs and proofs: `pack` undoes `unpack`, and `unpack` undoes `pack`.
