@@ -1,5 +1,5 @@
-// Packs lists of which the caller may hold only the front. Lists that do not fit the caller's arrays make a file that is
-// too long, and are refused for their length alone, whatever they say: so the answer is that of the whole lists.
+// Packs lists of which the caller may hold only the front. Lists that do not fit the caller's arrays make a file that
+// is too long, and are refused for their length alone, whatever they say: so the answer is that of the whole lists.
 use packing::Written;
 ghost use mathlib.Core.Path.{_≡_};
 ghost use mathlib.Core.List.{List};

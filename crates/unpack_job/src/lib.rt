@@ -1,5 +1,5 @@
-// The job `unpack`: the lists of a mesh file, printed on standard output as the text that `pack` takes. Which text a file
-// has is the promise of `unpacking::unpack`; here stands only the writing.
+// The job `unpack`: the lists of a mesh file, printed on standard output as the text that `pack` takes. Which text a
+// file has is the promise of `unpacking::unpack`; here stands only the writing.
 //
 // Where the file is refused, nothing is written there, and `refused` with the number on standard error says so; `lost`,
 // where the text could not be written.

@@ -1,5 +1,5 @@
--- The text of a mesh file, that is of the lists which it says, and what is answered of a file that is to be unpacked. What
--- the room then holds is `roomAfter` that text (packing/specs/Packed.antt).
+-- The text of a mesh file, that is of the lists which it says, and what is answered of a file that is to be unpacked.
+-- What the room then holds is `roomAfter` that text (packing/specs/Packed.antt).
 -- Assumes nothing.
 use Prim.Native.Nat.{ℕ}
 use mathlib.Core.List.{List}

@@ -365,7 +365,8 @@ packings =
     -- 15: one byte short, and no room at all
     ∷ unpacked coordsP numbersP (noughts 2) 103 15
     ∷ unpacked [] [] [] 0 15
-    -- two faults: 14 before 4, 5 and 15; 1, 4 and 9 before 15
+    -- two faults and more: 14 before 1 and 2, and before 4, 5 and 15; 1, 4 and 9 before 15
+    ∷ unpacked (still 6661) (noughts 8196) (noughts 2049) 0 14
     ∷ unpacked (pos 50001 ∷ []) (9 ∷ 9 ∷ 9 ∷ 9 ∷ []) [] 0 14
     ∷ unpacked (still 1539) (noughts 8188) (noughts 2047) 0 1
     ∷ unpacked (pos 0 ∷ pos 50001 ∷ pos 0 ∷ []) [] [] 0 4

@@ -1,5 +1,5 @@
--- Lent lists with room for more than any file that is accepted has: 2219 vertices, or 2663 tetrahedra, alone make a file
--- that is too long.
+-- Lent lists with room for more than any file that is accepted has: 2,219 vertices, or 2,663 tetrahedra, alone make a
+-- file that is too long.
 -- Assumes nothing.
 use Prim.Native.Nat.{ℕ, _≤_}
 use mathlib.Core.List.{List}
