@@ -4,6 +4,7 @@ use mathlib.Core.Bool.{Bool, true, false, cond}
 use mathlib.Core.List.{List}
 use Prim.Native.Nat.{ℕ, zero, suc, _+_, _-_, _*_, _/_, _%_, _^_, _≤_, _<_}
 use native.Mathlib.Nat.{div-add-mod', pow-succ', pow-le-pow-right, mod-lt}
+use native.Mathlib.Decide.{decLt}
 use native.Mathlib.Omega.{arith}
 use borrow.Author.Tests.{ltb-true, ltb-false}
 use lib.Dec.{ltb}
@@ -67,6 +68,18 @@ module _ {n r : ℕ} {text : List ℕ} (small : n < 18446744073709551616) (f : F
   pub decimal-is : text ≡ decimal n
   unfolding decimal
   decimal-is = e ∙ ap (λ k. digits 10 k n) (fewest-once n r (placesIn 19 n) f (places-fewest 19 n (omega arith)))
+
+-- a number below a power of 10 has no more digits than that says
+pub decimal-short : (k n : ℕ) → k ≤ 19 → n < 10 ^ suc k → length (decimal n) ≤ suc k
+unfolding decimal
+decimal-short k n g h =
+    let all : (j : ℕ) → suc k ≤ j → 10 ^ suc k ≤ 10 ^ j = λ j l. pow-le-pow-right (omega arith) l in
+    let f = places-fewest 19 n (omega (arith, all 20 (omega arith))) in
+    let p = placesIn 19 n in
+    elim (decLt (suc k) p) [
+      | yes l ↦ absurd (omega (arith, all (p - 1) (omega arith), f .2 (omega arith)))
+      | no l ↦ omega (arith, digits-length p n)
+    ]
 
 pub decimal-length : (n : ℕ) → length (decimal n) ≤ 20
 unfolding decimal

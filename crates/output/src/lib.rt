@@ -4,7 +4,6 @@ use libc::STDOUT_FILENO;
 use lines::put_number;
 use lines::put_numbers;
 use lines::put_text;
-use packing::Written;
 ghost use Prim.Native.Nat.{_+_, _≤_};
 ghost use mathlib.Core.Path.{_≡_};
 ghost use lib.ListN.{length};
@@ -65,17 +64,8 @@ pub fn tell_lost() {
     io::write_all(STDERR_FILENO, b"lost\n");
 }
 
-// Writes what stands at the front of a room by this answer to standard output, or tells why nothing does.
-pub fn show_written(out: &mut [u8], room: &[u8], answer: Written)
-    requires { ⌜ length (now out) ≡ 65536 ⌝ }
-{
-    match answer {
-        Written::Whole(size) => show_front(room, size),
-        Written::Refused(number) => tell_refused(out, number),
-    }
-}
-
-fn show_front(room: &[u8], size: usize) {
+// Writes the first bytes of a room to standard output, or tells that they are lost.
+pub fn show_front(room: &[u8], size: usize) {
     if size <= room.len() {
         if show(STDOUT_FILENO, room, size) {
             return;

@@ -5,8 +5,10 @@
 // Where there is no file, nothing is written there, and a line on standard error says why: `refused` with its number,
 // or `wrong` with a text's fault, its line, how many numbers stand before it and how many are wanted; or `lost`, where
 // the file could not be written.
-use output::show_written;
+use output::show_front;
+use output::tell_refused;
 use output::tell_wrong;
+use packing::Written;
 use packing_front::COORDINATES;
 use packing_front::NUMBERS;
 use packing_front::TETS;
@@ -31,7 +33,10 @@ fn show_packed(
     requires { ⌜ Roomy (now coordinates) (now numbers) (now parts) ⌝ }
 {
     let answer = packing_front::write_front(coordinates, numbers, parts, n, t, room);
-    show_written(out, room, answer);
+    match answer {
+        Written::Whole(size) => show_front(room, size),
+        Written::Refused(number) => tell_refused(out, number),
+    }
 }
 
 fn coordinate_room() -> [i32; COORDINATES]

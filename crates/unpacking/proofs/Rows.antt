@@ -15,9 +15,12 @@ use Rattle.base.proofs.Loop.{length-from}
 use Rattle.base.proofs.Runs.{spread-up}
 use Rattle.base.proofs.Signed.{toZ-pos}
 use Rattle.lines.proofs.Numbers.{behind, spread-nil, spread-most}
-use Rattle.writing_lists.specs.Printed.{lineOf, vertexRow, tetRow}
-use Rattle.writing_lists.proofs.Lengths.{line-length}
-use Rattle.unpacking.specs.between.Sizes.{vertexLine, tetLine}
+use Rattle.lines.specs.Text.{decimal}
+use Rattle.lines.proofs.Digits.{decimal-short}
+use Rattle.space.specs.between.Working.{Close}
+use Rattle.writing_lists.specs.Printed.{signedText, lineOf, vertexRow, tetRow}
+use Rattle.writing_lists.proofs.Lengths.{signed-short, line-widths}
+use Rattle.unpacking.specs.between.Sizes.{vertexMost, tetMost, Few}
 
 -- the first i rows stand from `from` on, and the next goes to `at`
 pub record RowsLaid (f : ℕ → List ℕ) (from i at : ℕ) (old l : List ℕ) : Type 0 where
@@ -43,11 +46,24 @@ module _ (f : ℕ → List ℕ) where
 
 -- ---- the two tables
 
-pub vertex-short : (cs : List ℤ) (v : ℕ) → length (lineOf (vertexRow cs v)) ≤ vertexLine
-vertex-short cs v = line-length (vertexRow cs v)
+pub vertex-short : (cs : List ℤ) → Close cs → (v : ℕ) → length (lineOf (vertexRow cs v)) ≤ vertexMost
+vertex-short cs h v =
+    let wide : (i : ℕ) → length (signedText (getD cs i (pos 0))) ≤ 6 = λ i. signed-short (getD cs i (pos 0)) (omega (arith, h .close i .small)) in
+    omega (arith, line-widths (getD cs (3 * v) (pos 0)) (getD cs (3 * v + 1) (pos 0) ∷ getD cs (3 * v + 2) (pos 0) ∷ []), wide (3 * v), wide (3 * v + 1), wide (3 * v + 2))
 
-pub tet-short : (ls ps : List ℕ) (j : ℕ) → length (lineOf (tetRow ls ps j)) ≤ tetLine
-tet-short ls ps j = line-length (tetRow ls ps j)
+pub tet-short : (ls ps : List ℕ) → Few ls → ((i : ℕ) → getD ps i 0 < 65536) → (j : ℕ) → length (lineOf (tetRow ls ps j)) ≤ tetMost
+tet-short ls ps h g j =
+    let wide : (i : ℕ) → length (decimal (getD ls i 0)) ≤ 3 = λ i. decimal-short 2 (getD ls i 0) (omega arith) (h .few i) in
+    let part = decimal-short 4 (getD ps j 0) (omega arith) (omega (arith, g j)) in
+    omega (
+      arith,
+      line-widths (pos (getD ls (4 * j) 0)) (pos (getD ls (4 * j + 1) 0) ∷ pos (getD ls (4 * j + 2) 0) ∷ pos (getD ls (4 * j + 3) 0) ∷ pos (getD ps j 0) ∷ []),
+      wide (4 * j),
+      wide (4 * j + 1),
+      wide (4 * j + 2),
+      wide (4 * j + 3),
+      part,
+    )
 
 -- ---- what the slices lent hold
 

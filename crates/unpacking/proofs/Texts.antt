@@ -2,16 +2,19 @@
 -- Assumes nothing.
 use mathlib.Core.Path.{_≡_, refl, sym, _∙_, ap}
 use mathlib.Core.List.{List, [], _∷_, _++_}
-use Prim.Native.Nat.{ℕ, _+_, _/_, _<_}
+use Prim.Native.Nat.{ℕ, _+_, _*_, _/_, _≤_, _<_}
 use native.Mathlib.Nat.{zero-add}
+use native.Mathlib.Decide.{decLt}
+use native.Mathlib.Omega.{arith}
 use lib.IntN.{ℤ, pos}
-use lib.ListN.{length, drop}
+use lib.ListN.{length, drop, List·getD-eq-default}
 use mir.Syntax.{w64}
 use mir.Val.{toZ}
 use Rattle.base.specs.Laid.{Laid}
 use Rattle.base.proofs.Lay.{lay-front}
 use Rattle.base.proofs.Signed.{toZ-pos}
-use Rattle.layout.specs.Layout.{coordsOf, labelsOf, partsOf}
+use Rattle.tets_around.specs.between.Index.{Labelled}
+use Rattle.layout.specs.Layout.{vertices, coordsOf, labelsOf, partsOf}
 use Rattle.layout.specs.between.Framed.{Framed}
 use Rattle.arrays.specs.Refusals.{refusals, refusal, checked}
 use Rattle.arrays.specs.declared.Checked.the-variants.{Accepted, Refused as NoMesh}
@@ -21,9 +24,15 @@ use Rattle.packing.specs.declared.Written.the-variants.{Whole, Refused}
 use Rattle.packing.proofs.Ways.{unless-refused, unless-none}
 use Rattle.lines.proofs.Numbers.{behind}
 use Rattle.writing_lists.specs.Printed.{lineOf, vertexLines, tetLines, textOf}
+use Rattle.writing_lists.proofs.Lengths.{signed-length, line-widths}
 use Rattle.unpacking.specs.Unpacked.{fileText, unpacked}
+use Rattle.unpacking.specs.between.Sizes.{countPlace, textRoom, Few, TextFits}
 
 -- ---- the line of the counts, and what follows it
+
+pub counts-most : (n t : ℕ) → length (lineOf (toZ w64 n ∷ toZ w64 t ∷ [])) < countPlace
+counts-most n t =
+    omega (arith, line-widths (toZ w64 n) (toZ w64 t ∷ []), signed-length (toZ w64 n), signed-length (toZ w64 t))
 
 pub counts-kept : (n t : ℕ) → n < 9223372036854775808 → t < 9223372036854775808 → toZ w64 n ∷ toZ w64 t ∷ [] ≡ pos n ∷ pos t ∷ []
 counts-kept n t h g = let a = toZ-pos w64 n h in let b = toZ-pos w64 t g in cc
@@ -53,6 +62,24 @@ framed-by f e =
     let s = accepted-says f e in
     let g = accepted-gives f (s .0) .framed in
     rw (sym (s .1 .0), sym (s .1 .1)) at g
+
+-- every vertex number of an accepted file is below 512
+few-of : (ls : List ℕ) (n : ℕ) → n ≤ 512 → Labelled ls n → Few ls
+few-of ls n h d = record { few = λ i. elim (decLt i (length ls)) [ yes l ↦ omega (arith, d .below i l) | no l ↦ omega (arith, List·getD-eq-default ls 0 {n = i} (omega arith)) ] }
+
+-- so a text of an accepted file has place in the room
+pub file-fits : (f : List ℕ) {n t : ℕ} {cs : List ℤ} {ls ps : List ℕ} {room : ℕ} → checked f ≡ Accepted n t → cs ≡ coordsOf f → ls ≡ labelsOf f → ps ≡ partsOf f
+    → length cs ≡ 3 * n → length ls ≡ 4 * t → length ps ≡ t → textRoom ≤ room → TextFits cs ls ps room
+file-fits f {n} {t} e a b c x y z h =
+    let s = accepted-says f e in
+    let g = accepted-gives f (s .0) in
+    let w = g .framed in
+    let d : Few (labelsOf f) = few-of (labelsOf f) (vertices f) (w .fewVertices) (g .labelled) in
+    let p = s .1 .0 in
+    let q = s .1 .1 in
+    let u = w .fewVertices in
+    let v = w .fewTets in
+    record { fours = omega arith; fits = omega arith; close = rw a (g .close); few = rw b d }
 
 -- ---- the answer
 

@@ -9,11 +9,14 @@ ghost use Prim.Native.Nat.{_+_, _*_, _≤_, _<_};
 ghost use lib.IntN.{pos};
 ghost use lib.ListN.{length};
 ghost use Rattle.base.specs.Laid.{Laid};
+ghost use Rattle.space.specs.between.Working.{Close};
 ghost use Rattle.layout.specs.between.Framed.{Framed};
+ghost use Rattle.arrays.specs.Refusals.{checked};
+ghost use Rattle.arrays.specs.declared.Checked.the-variants.{Accepted};
 ghost use Rattle.packing.specs.Packed.{roomAfter};
 ghost use Rattle.writing_lists.specs.Printed.{lineOf, vertexRow, tetRow, vertexLines, tetLines, textOf};
 ghost use Rattle.unpacking.specs.Unpacked.{fileText, unpacked};
-ghost use Rattle.unpacking.specs.between.Sizes.{vertexLine, tetLine, textRoom, Sized};
+ghost use Rattle.unpacking.specs.between.Sizes.{vertexMost, tetMost, vertexPlace, tetPlace, textRoom, Few, TextFits};
 
 // ---- a line
 
@@ -25,7 +28,7 @@ fn wide(x: u16) -> i64
 }
 
 fn put_vertex(out: &mut [u8], at: usize, coordinates: &[i64], v: usize) -> usize
-    requires { ⌜ (at + vertexLine ≤ length (now out)) × (3 * v + 3 ≤ length (now coordinates)) ⌝ }
+    requires { ⌜ (at + vertexPlace ≤ length (now out)) × (3 * v + 3 ≤ length (now coordinates)) ⌝ }
     ensures next { λ r. ⌜ r ≡ at + length (lineOf (vertexRow (now (coordinates .entry)) v)) ⌝ }
     ensures text { λ r. ⌜ Laid at (lineOf (vertexRow (now (coordinates .entry)) v)) (now (out .entry)) (now (out .exit)) ⌝ }
 {
@@ -34,7 +37,7 @@ fn put_vertex(out: &mut [u8], at: usize, coordinates: &[i64], v: usize) -> usize
 }
 
 fn put_tet(out: &mut [u8], at: usize, labels: &[u16], parts: &[u16], j: usize) -> usize
-    requires { ⌜ (at + tetLine ≤ length (now out)) × ((4 * j + 4 ≤ length (now labels)) × (j < length (now parts))) ⌝ }
+    requires { ⌜ (at + tetPlace ≤ length (now out)) × ((4 * j + 4 ≤ length (now labels)) × (j < length (now parts))) ⌝ }
     ensures next { λ r. ⌜ r ≡ at + length (lineOf (tetRow (now (labels .entry)) (now (parts .entry)) j)) ⌝ }
     ensures text { λ r. ⌜ Laid at (lineOf (tetRow (now (labels .entry)) (now (parts .entry)) j)) (now (out .entry)) (now (out .exit)) ⌝ }
 {
@@ -50,7 +53,8 @@ fn put_tet(out: &mut [u8], at: usize, labels: &[u16], parts: &[u16], j: usize) -
 // ---- the lines
 
 fn put_vertices(out: &mut [u8], from: usize, coordinates: &[i64], n: usize) -> usize
-    requires { ⌜ (from + vertexLine * n ≤ length (now out)) × (3 * n ≤ length (now coordinates)) ⌝ }
+    requires { ⌜ (from + vertexMost * n + vertexPlace ≤ length (now out)) × (3 * n ≤ length (now coordinates)) ⌝ }
+    requires { ⌜ Close (now coordinates) ⌝ }
     ensures next { λ r. ⌜ r ≡ from + length (vertexLines (now (coordinates .entry)) n) ⌝ }
     ensures text { λ r. ⌜ Laid from (vertexLines (now (coordinates .entry)) n) (now (out .entry)) (now (out .exit)) ⌝ }
 {
@@ -64,9 +68,11 @@ fn put_vertices(out: &mut [u8], from: usize, coordinates: &[i64], n: usize) -> u
 }
 
 fn put_tets(out: &mut [u8], from: usize, labels: &[u16], parts: &[u16]) -> usize
-    requires { ⌜ (from + tetLine * length (now parts) ≤ length (now out)) × (length (now labels) ≡ 4 * length (now parts)) ⌝ }
+    requires { ⌜ (from + tetMost * length (now parts) + tetPlace ≤ length (now out)) × (length (now labels) ≡ 4 * length (now parts)) ⌝ }
+    requires { ⌜ Few (now labels) ⌝ }
     ensures next { λ r. ⌜ r ≡ from + length (tetLines (now (labels .entry)) (now (parts .entry)) (length (now (parts .entry)))) ⌝ }
-    ensures text { λ r. ⌜ Laid from (tetLines (now (labels .entry)) (now (parts .entry)) (length (now (parts .entry)))) (now (out .entry)) (now (out .exit)) ⌝ }
+    ensures text { λ r. ⌜ Laid from (tetLines (now (labels .entry)) (now (parts .entry)) (length (now (parts .entry))))
+        (now (out .entry)) (now (out .exit)) ⌝ }
 {
     let mut at = from;
     let mut j = 0;
@@ -81,7 +87,7 @@ fn put_tets(out: &mut [u8], from: usize, labels: &[u16], parts: &[u16]) -> usize
 
 // Puts the text of lists to the front, and answers where it ends.
 fn put_lists(out: &mut [u8], coordinates: &[i64], labels: &[u16], parts: &[u16]) -> usize
-    requires { ⌜ Sized (now coordinates) (now labels) (now parts) (length (now out)) ⌝ }
+    requires { ⌜ TextFits (now coordinates) (now labels) (now parts) (length (now out)) ⌝ }
     ensures next { λ r. ⌜ r ≡ length (textOf (now (coordinates .entry)) (now (labels .entry)) (now (parts .entry))) ⌝ }
     ensures text { λ r. ⌜ Laid 0 (textOf (now (coordinates .entry)) (now (labels .entry)) (now (parts .entry))) (now (out .entry)) (now (out .exit)) ⌝ }
 {
@@ -92,7 +98,7 @@ fn put_lists(out: &mut [u8], coordinates: &[i64], labels: &[u16], parts: &[u16])
     put_tets(out, second, labels, parts)
 }
 
-// Puts the text of a file with n vertices and t tetrahedra, which is decoded into the lent arrays.
+// Puts the text of an accepted file, which is decoded into the lent arrays.
 fn put_decoded(
     out: &mut [u8],
     file: &[u8],
@@ -102,7 +108,8 @@ fn put_decoded(
     labels: &mut [u16],
     parts: &mut [u16],
 ) -> usize
-    requires { ⌜ Framed (now file) n t × (textRoom ≤ length (now out)) ⌝ }
+    requires { ⌜ Framed (now file) n t × (checked (now file) ≡ Accepted n t) ⌝ }
+    requires { ⌜ textRoom ≤ length (now out) ⌝ }
     requires { ⌜ (length (now coords) ≡ 3 * n) × ((length (now labels) ≡ 4 * t) × (length (now parts) ≡ t)) ⌝ }
     ensures next { λ r. ⌜ r ≡ length (fileText (now (file .entry))) ⌝ }
     ensures text { λ r. ⌜ Laid 0 (fileText (now (file .entry))) (now (out .entry)) (now (out .exit)) ⌝ }
@@ -112,7 +119,8 @@ fn put_decoded(
 }
 
 fn put_file(out: &mut [u8], file: &[u8], n: usize, t: usize) -> usize
-    requires { ⌜ Framed (now file) n t × (textRoom ≤ length (now out)) ⌝ }
+    requires { ⌜ Framed (now file) n t × (checked (now file) ≡ Accepted n t) ⌝ }
+    requires { ⌜ textRoom ≤ length (now out) ⌝ }
     ensures next { λ r. ⌜ r ≡ length (fileText (now (file .entry))) ⌝ }
     ensures text { λ r. ⌜ Laid 0 (fileText (now (file .entry))) (now (out .entry)) (now (out .exit)) ⌝ }
 {

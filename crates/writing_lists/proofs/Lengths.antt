@@ -1,14 +1,13 @@
 -- How long the texts can be: 20 digits and a sign, and a space before the next number. Assumes nothing.
 use mathlib.Core.Path.{_≡_, refl, sym, ap}
 use mathlib.Core.List.{List, [], _∷_, _++_}
-use Prim.Native.Nat.{suc, _+_, _*_, _-_, _≤_}
+use Prim.Native.Nat.{ℕ, suc, _+_, _-_, _≤_, _<_}
 use native.Mathlib.Omega.{arith}
-use lib.IntN.{ℤ, pos, negsuc}
+use lib.IntN.{ℤ, pos, negsuc, natAbs}
 use lib.ListN.{length, getD, take, drop, length-append, length-take, length-drop}
 use lib.Seq.{take-all}
 use Rattle.base.specs.Lists.{spread}
-use Rattle.lines.proofs.Digits.{decimal-length}
-use Rattle.lines.proofs.Numbers.{spread-most}
+use Rattle.lines.proofs.Digits.{decimal-short, decimal-length}
 use Rattle.writing_lists.specs.Printed.{signedText, apart, lineOf}
 
 pub signed-length : (z : ℤ) → length (signedText z) ≤ 21
@@ -18,16 +17,29 @@ signed-length (negsuc k) = omega (arith, decimal-length (suc k))
 pub apart-length : (z : ℤ) → length (apart z) ≤ 22
 apart-length z = omega (arith, signed-length z)
 
-pub line-length : (zs : List ℤ) → length (lineOf zs) ≤ 22 * length zs + 1
+-- a number of at most five digits, with its sign
+pub signed-short : (z : ℤ) → natAbs z < 100000 → length (signedText z) ≤ 6
+signed-short (pos n) h = omega (arith, decimal-short 4 n (omega arith) h)
+signed-short (negsuc k) h = omega (arith, decimal-short 4 (suc k) (omega arith) h)
+
+-- the numbers and a character behind each
+abbrev pub widths : List ℤ → ℕ
+widths [] = 0
+widths (z ∷ zs) = length (signedText z) + 1 + widths zs
+
+apart-widths : (zs : List ℤ) → length (spread apart zs) ≡ widths zs
+unfolding spread
+apart-widths [] = refl
+apart-widths (z ∷ zs) = omega (arith, length-append (apart z) (spread apart zs), apart-widths zs)
+
+pub line-widths : (z : ℤ) (zs : List ℤ) → length (lineOf (z ∷ zs)) ≡ widths (z ∷ zs)
 unfolding lineOf
-line-length [] = omega arith
-line-length (z ∷ zs) =
+line-widths z zs =
     omega (
       arith,
       length-append (signedText z ++ spread apart zs) (10 ∷ []),
       length-append (signedText z) (spread apart zs),
-      signed-length z,
-      spread-most apart 22 apart-length zs,
+      apart-widths zs,
     )
 
 -- ---- a line, by its first number and the others, as the code takes them

@@ -1,14 +1,17 @@
 -- `unpacking::put_decoded` meets its contract: what was read is what the file says. Assumes nothing.
-use Rattle.unpacking.proofs.Texts.{file-laid}
+use Rattle.unpacking.proofs.Texts.{file-laid, file-fits}
 use borrow.Author.Needs.{needs}
 use Rattle.unpacking.proofs.put_decoded.Statement.{statement}
 use Rattle.unpacking.proofs.put_decoded.Tie as tie
 
 decode-requires : tie.Need-decode-requires
-decode-requires c κs = search needs
+decode-requires c κs = let s = c .before .before .before .before .before .before .before in (s .pre .0 .0, s .pre .1 .1)
 
 put-lists-requires : tie.Need-put-lists-requires
-put-lists-requires c κs = search needs
+put-lists-requires c κs =
+    let d = c .before .before .before .before .before .before .before .before .before .decode .ensures in
+    let s = c .before .before .before .before .before .before .before .before .before .before .before .before .before .before .before .before .before in
+    file-fits (s .args .file .now) (s .pre .0 .1) (d .0) (d .1 .0) (d .1 .1) (search needs) (search needs) (search needs) (search needs)
 
 same-length : tie.Need-same-length
 same-length c = search needs

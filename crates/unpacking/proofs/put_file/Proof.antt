@@ -32,7 +32,7 @@ slice-aggregate-put-decoded-3 c = sym (length-take-le _ _ (search needs))
 put-decoded-requires : tie.Need-put-decoded-requires
 put-decoded-requires c κs =
     let s = c .before .before .before .before .before .before in
-    (s .pre, (length-take-le _ _ (search needs), (length-take-le _ _ (search needs), length-take-le _ _ (search needs))))
+    (s .pre .0, (s .pre .1, (length-take-le _ _ (search needs), (length-take-le _ _ (search needs), length-take-le _ _ (search needs)))))
 
 same-length : tie.Need-same-length
 same-length c = search needs

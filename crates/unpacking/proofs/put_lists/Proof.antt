@@ -1,15 +1,10 @@
 -- `unpacking::put_lists` meets its contract: three pieces, one behind the other. Assumes nothing.
-use mathlib.Core.List.{[], _∷_}
 use Prim.Native.Nat.{_/_}
 use native.Mathlib.Omega.{arith}
 use lib.ListN.{length}
-use mir.Syntax.{w64}
-use mir.Val.{toZ}
 use Rattle.writing_lists.specs.Printed.{lineOf, vertexRow}
-use Rattle.writing_lists.proofs.Lengths.{line-length}
-use Rattle.unpacking.specs.between.Sizes.{vertexLine}
 use Rattle.unpacking.proofs.Rows.{rows-most, vertex-short}
-use Rattle.unpacking.proofs.Texts.{counts-kept, text-laid}
+use Rattle.unpacking.proofs.Texts.{counts-most, counts-kept, text-laid}
 use borrow.Author.Needs.{needs}
 use Rattle.unpacking.proofs.put_lists.Statement.{statement}
 use Rattle.unpacking.proofs.put_lists.Tie as tie
@@ -30,8 +25,9 @@ put-vertices-requires : tie.Need-put-vertices-requires
 put-vertices-requires c κs =
     let s = c .before .before .before .before .before .before .before .before .before in
     let p = c .before .before .before .put-line .ensures in
+    let m = counts-most (length (s .args .coordinates .now) / 3) (length (s .args .parts .now)) in
     let h = s .pre .fits in
-    (omega (arith, p .0, p .1 .same, line-length (toZ w64 (length (s .args .coordinates .now) / 3) ∷ toZ w64 (length (s .args .parts .now)) ∷ [])), omega arith)
+    ((omega (arith, p .0, p .1 .same), omega arith), s .pre .close)
 
 put-tets-requires : tie.Need-put-tets-requires
 put-tets-requires c κs =
@@ -39,9 +35,10 @@ put-tets-requires c κs =
     let p = c .before .before .before .before .before .before .before .put-line .ensures in
     let v = c .before .before .before .put-vertices .ensures in
     let cs = s .args .coordinates .now in
+    let l = counts-most (length cs / 3) (length (s .args .parts .now)) in
+    let m = rows-most (λ v. lineOf (vertexRow cs v)) _ (vertex-short cs (s .pre .close)) (length cs / 3) in
     let h = s .pre .fits in
-    let m = rows-most (λ v. lineOf (vertexRow cs v)) vertexLine (vertex-short cs) (length cs / 3) in
-    (omega (arith, p .0, p .1 .same, v .0, v .1 .same, m, line-length (toZ w64 (length cs / 3) ∷ toZ w64 (length (s .args .parts .now)) ∷ [])), s .pre .fours)
+    ((omega (arith, p .0, p .1 .same, v .0, v .1 .same), s .pre .fours), s .pre .few)
 
 same-length : tie.Need-same-length
 same-length c = search needs

@@ -21,9 +21,12 @@ loop-holds c = let a = c .before .before .before .args in (omega arith, no-rows 
 put-tet-requires : tie.Need-put-tet-requires Inv-loop μ-loop
 put-tet-requires c κs =
     let l = c .before .before in
-    let a = l .before .before .before .before .args in
+    let k = l .before in
+    let s = k .before .before .before in
+    let ls = s .args .labels .now in
+    let ps = s .args .parts .now in
     let d = l .loop .inv .1 in
-    let m = rows-most (λ j. lineOf (tetRow (a .labels .now) (a .parts .now) j)) _ (tet-short (a .labels .now) (a .parts .now)) (l .loop .j) in
+    let m = rows-most (λ j. lineOf (tetRow ls ps j)) _ (tet-short ls ps (s .pre .1) (λ i. omega (arith, k .shared-slice-known2 .given i))) (l .loop .j) in
     omega (arith, m, d .next, d .text .same)
 
 add-j : tie.Need-add-j Inv-loop μ-loop

@@ -20,9 +20,9 @@ loop-holds c = let a = c .before .args in (omega arith, no-rows _ (a .from) (a .
 put-vertex-requires : tie.Need-put-vertex-requires Inv-loop μ-loop
 put-vertex-requires c κs =
     let l = c .before .before in
-    let a = l .before .before .args in
+    let s = l .before .before in
     let d = l .loop .inv .1 in
-    let m = rows-most (λ v. lineOf (vertexRow (a .coordinates .now) v)) _ (vertex-short (a .coordinates .now)) (l .loop .v) in
+    let m = rows-most (λ v. lineOf (vertexRow (s .args .coordinates .now) v)) _ (vertex-short (s .args .coordinates .now) (s .pre .1)) (l .loop .v) in
     omega (arith, m, d .next, d .text .same)
 
 add-v : tie.Need-add-v Inv-loop μ-loop

@@ -14,7 +14,7 @@ enum-known-found c = search needs
 put-file-requires : tie.Need-put-file-requires
 put-file-requires c κs =
     let e = sym (c .before .before .before .before .check .ensures) ∙ c .before .before .found .given .1 in
-    (framed-by _ e, search needs)
+    ((framed-by _ e, e), search needs)
 
 enum-known-found-2 : tie.Need-enum-known-found-2
 enum-known-found-2 c = search needs
