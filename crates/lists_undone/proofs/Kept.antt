@@ -14,7 +14,7 @@ use Rattle.reading_words.specs.declared.Spot.the-variants.{Count, Coordinate, L
 use Rattle.reading_words.specs.Steps.{spotOf, next, endsNumber, begun}
 use Rattle.reading_lists.specs.Reading.{numberOf, coordsWith, labelsWith, partsWith, Reading, reading, read1, readAll}
 use Rattle.packing_front.specs.Front.{IsFront}
-use Rattle.lists_undone.specs.Kept.{FrontOf, AsLong, KeptOf, Kept}
+use Rattle.lists_undone.specs.Kept.{FrontOf, AsLong, KeptOf, TextsKept}
 
 -- ---- fronts
 
@@ -130,5 +130,5 @@ read-said x n t c l p =
       };
     }
 
-pub kept : Kept
+pub kept : TextsKept
 kept = record { lengths = read-lengths; fronts = read-fronts; said = read-said }

@@ -41,7 +41,7 @@ pub record KeptOf (x : List ℕ) (n t c l p : ℕ) : Type 0 where
   pub fronts : Fronts n t (readInto x c l p .coordinates) (readInto x c l p .labels) (readInto x c l p .parts)
       (listsSaid x n t .coordinates) (listsSaid x n t .labels) (listsSaid x n t .parts)
 
-pub record Kept : Type 0 where
+pub record TextsKept : Type 0 where
   -- reading a text keeps the lengths of the lists
   pub lengths : (x : List ℕ) (s : Reading) → AsLong (readAll x s) s
   -- and keeps fronts

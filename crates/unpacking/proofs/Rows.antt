@@ -20,7 +20,7 @@ use Rattle.lines.proofs.Digits.{decimal-short}
 use Rattle.space.specs.between.Working.{Close}
 use Rattle.writing_lists.specs.Printed.{signedText, lineOf, vertexRow, tetRow}
 use Rattle.writing_lists.proofs.Lengths.{signed-short, line-widths}
-use Rattle.unpacking.specs.between.Sizes.{vertexMost, tetMost, Few}
+use Rattle.unpacking.specs.between.Sizes.{vertexMost, tetMost, ThreeDigits}
 
 -- the first i rows stand from `from` on, and the next goes to `at`
 pub record RowsLaid (f : ℕ → List ℕ) (from i at : ℕ) (old l : List ℕ) : Type 0 where
@@ -51,7 +51,7 @@ vertex-short cs h v =
     let wide : (i : ℕ) → length (signedText (getD cs i (pos 0))) ≤ 6 = λ i. signed-short (getD cs i (pos 0)) (omega (arith, h .close i .small)) in
     omega (arith, line-widths (getD cs (3 * v) (pos 0)) (getD cs (3 * v + 1) (pos 0) ∷ getD cs (3 * v + 2) (pos 0) ∷ []), wide (3 * v), wide (3 * v + 1), wide (3 * v + 2))
 
-pub tet-short : (ls ps : List ℕ) → Few ls → ((i : ℕ) → getD ps i 0 < 65536) → (j : ℕ) → length (lineOf (tetRow ls ps j)) ≤ tetMost
+pub tet-short : (ls ps : List ℕ) → ThreeDigits ls → ((i : ℕ) → getD ps i 0 < 65536) → (j : ℕ) → length (lineOf (tetRow ls ps j)) ≤ tetMost
 tet-short ls ps h g j =
     let wide : (i : ℕ) → length (decimal (getD ls i 0)) ≤ 3 = λ i. decimal-short 2 (getD ls i 0) (omega arith) (h .few i) in
     let part = decimal-short 4 (getD ps j 0) (omega arith) (omega (arith, g j)) in

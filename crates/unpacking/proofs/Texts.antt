@@ -26,7 +26,7 @@ use Rattle.lines.proofs.Numbers.{behind}
 use Rattle.writing_lists.specs.Printed.{lineOf, vertexLines, tetLines, textOf}
 use Rattle.writing_lists.proofs.Lengths.{signed-length, line-widths}
 use Rattle.unpacking.specs.Unpacked.{fileText, unpacked}
-use Rattle.unpacking.specs.between.Sizes.{countPlace, textRoom, Few, TextFits}
+use Rattle.unpacking.specs.between.Sizes.{countPlace, textRoom, ThreeDigits, TextFits}
 
 -- ---- the line of the counts, and what follows it
 
@@ -64,7 +64,7 @@ framed-by f e =
     rw (sym (s .1 .0), sym (s .1 .1)) at g
 
 -- every vertex number of an accepted file is below 512
-few-of : (ls : List ℕ) (n : ℕ) → n ≤ 512 → Labelled ls n → Few ls
+few-of : (ls : List ℕ) (n : ℕ) → n ≤ 512 → Labelled ls n → ThreeDigits ls
 few-of ls n h d = record { few = λ i. elim (decLt i (length ls)) [ yes l ↦ omega (arith, d .below i l) | no l ↦ omega (arith, List·getD-eq-default ls 0 {n = i} (omega arith)) ] }
 
 -- so a text of an accepted file has place in the room
@@ -74,7 +74,7 @@ file-fits f {n} {t} e a b c x y z h =
     let s = accepted-says f e in
     let g = accepted-gives f (s .0) in
     let w = g .framed in
-    let d : Few (labelsOf f) = few-of (labelsOf f) (vertices f) (w .fewVertices) (g .labelled) in
+    let d : ThreeDigits (labelsOf f) = few-of (labelsOf f) (vertices f) (w .fewVertices) (g .labelled) in
     let p = s .1 .0 in
     let q = s .1 .1 in
     let u = w .fewVertices in

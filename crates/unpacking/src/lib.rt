@@ -16,7 +16,7 @@ ghost use Rattle.arrays.specs.declared.Checked.the-variants.{Accepted};
 ghost use Rattle.packing.specs.Packed.{roomAfter};
 ghost use Rattle.writing_lists.specs.Printed.{lineOf, vertexRow, tetRow, vertexLines, tetLines, textOf};
 ghost use Rattle.unpacking.specs.Unpacked.{fileText, unpacked};
-ghost use Rattle.unpacking.specs.between.Sizes.{vertexMost, tetMost, vertexPlace, tetPlace, textRoom, Few, TextFits};
+ghost use Rattle.unpacking.specs.between.Sizes.{vertexMost, tetMost, vertexPlace, tetPlace, textRoom, ThreeDigits, TextFits};
 
 // ---- a line
 
@@ -69,7 +69,7 @@ fn put_vertices(out: &mut [u8], from: usize, coordinates: &[i64], n: usize) -> u
 
 fn put_tets(out: &mut [u8], from: usize, labels: &[u16], parts: &[u16]) -> usize
     requires { ⌜ (from + tetMost * length (now parts) + tetPlace ≤ length (now out)) × (length (now labels) ≡ 4 * length (now parts)) ⌝ }
-    requires { ⌜ Few (now labels) ⌝ }
+    requires { ⌜ ThreeDigits (now labels) ⌝ }
     ensures next { λ r. ⌜ r ≡ from + length (tetLines (now (labels .entry)) (now (parts .entry)) (length (now (parts .entry)))) ⌝ }
     ensures text { λ r. ⌜ Laid from (tetLines (now (labels .entry)) (now (parts .entry)) (length (now (parts .entry))))
         (now (out .entry)) (now (out .exit)) ⌝ }

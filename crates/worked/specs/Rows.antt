@@ -330,8 +330,8 @@ abbrev pub packs : List ℤ → List ℕ → List ℕ → List ℕ → ℕ → R
 packs cs ls ps f more = row (packing cs ls ps (nines (length f) ++ nines more)) (packedTo (Whole (length f)) (f ++ nines more))
 
 -- nothing is written into so many bytes
-abbrev pub unpacked : List ℤ → List ℕ → List ℕ → ℕ → ℕ → Row
-unpacked cs ls ps room x = row (packing cs ls ps (nines room)) (packedTo (Unwritten x) (nines room))
+abbrev pub notPacked : List ℤ → List ℕ → List ℕ → ℕ → ℕ → Row
+notPacked cs ls ps room x = row (packing cs ls ps (nines room)) (packedTo (Unwritten x) (nines room))
 
 abbrev pub packings : List Row
 packings =
@@ -343,34 +343,34 @@ packings =
     ∷ packs [] [] [] (file [] []) 0
     ∷ packs (pos 50000 ∷ negsuc 0 ∷ negsuc 49999 ∷ []) [] [] (lone 50000 (minus 1) (minus 50000)) 2
     -- 14: not in threes, not in fours, a part too few, a part too many
-    ∷ unpacked (pos 0 ∷ []) [] [] 40 14
-    ∷ unpacked coordsP (0 ∷ 1 ∷ 2 ∷ []) [] 104 14
-    ∷ unpacked coordsP numbersP (noughts 1) 104 14
-    ∷ unpacked coordsP numbersP (noughts 3) 104 14
+    ∷ notPacked (pos 0 ∷ []) [] [] 40 14
+    ∷ notPacked coordsP (0 ∷ 1 ∷ 2 ∷ []) [] 104 14
+    ∷ notPacked coordsP numbersP (noughts 1) 104 14
+    ∷ notPacked coordsP numbersP (noughts 3) 104 14
     -- 1: 26,650 bytes; 2: 513 vertices, and 2,049 tetrahedra
-    ∷ unpacked (still 1539) (noughts 8188) (noughts 2047) 40 1
-    ∷ unpacked (still 1539) [] [] 40 2
-    ∷ unpacked [] (noughts 8196) (noughts 2049) 40 2
+    ∷ notPacked (still 1539) (noughts 8188) (noughts 2047) 40 1
+    ∷ notPacked (still 1539) [] [] 40 2
+    ∷ notPacked [] (noughts 8196) (noughts 2049) 40 2
     -- 4: past the ends of the bounds, and the ends of 32 bits
-    ∷ unpacked (pos 0 ∷ pos 50001 ∷ pos 0 ∷ []) [] [] 36 4
-    ∷ unpacked (pos 0 ∷ negsuc 50000 ∷ pos 0 ∷ []) [] [] 36 4
-    ∷ unpacked (pos 2147483647 ∷ pos 0 ∷ negsuc 2147483647 ∷ []) [] [] 36 4
+    ∷ notPacked (pos 0 ∷ pos 50001 ∷ pos 0 ∷ []) [] [] 36 4
+    ∷ notPacked (pos 0 ∷ negsuc 50000 ∷ pos 0 ∷ []) [] [] 36 4
+    ∷ notPacked (pos 2147483647 ∷ pos 0 ∷ negsuc 2147483647 ∷ []) [] [] 36 4
     -- 5, 6, 7
-    ∷ unpacked coordsC (numbersC 0 5 2 8) (noughts 5) 170 5
-    ∷ unpacked coordsC (numbersC 0 5 2 5) (noughts 5) 170 6
-    ∷ unpacked coordsC (numbersC 0 2 5 7) (noughts 5) 170 7
+    ∷ notPacked coordsC (numbersC 0 5 2 8) (noughts 5) 170 5
+    ∷ notPacked coordsC (numbersC 0 5 2 5) (noughts 5) 170 6
+    ∷ notPacked coordsC (numbersC 0 2 5 7) (noughts 5) 170 7
     -- 8, 9
-    ∷ unpacked coordsFan (0 ∷ 1 ∷ 2 ∷ 3 ∷ 2 ∷ 1 ∷ 0 ∷ 5 ∷ 1 ∷ 2 ∷ 0 ∷ 4 ∷ []) (noughts 3) 126 8
-    ∷ unpacked coordsFan (0 ∷ 1 ∷ 2 ∷ 3 ∷ 1 ∷ 2 ∷ 0 ∷ 4 ∷ []) (noughts 2) 116 9
+    ∷ notPacked coordsFan (0 ∷ 1 ∷ 2 ∷ 3 ∷ 2 ∷ 1 ∷ 0 ∷ 5 ∷ 1 ∷ 2 ∷ 0 ∷ 4 ∷ []) (noughts 3) 126 8
+    ∷ notPacked coordsFan (0 ∷ 1 ∷ 2 ∷ 3 ∷ 1 ∷ 2 ∷ 0 ∷ 4 ∷ []) (noughts 2) 116 9
     -- 15: one byte short, and no room at all
-    ∷ unpacked coordsP numbersP (noughts 2) 103 15
-    ∷ unpacked [] [] [] 0 15
+    ∷ notPacked coordsP numbersP (noughts 2) 103 15
+    ∷ notPacked [] [] [] 0 15
     -- two faults and more: 14 before 1 and 2, and before 4, 5 and 15; 1, 4 and 9 before 15
-    ∷ unpacked (still 6661) (noughts 8196) (noughts 2049) 0 14
-    ∷ unpacked (pos 50001 ∷ []) (9 ∷ 9 ∷ 9 ∷ 9 ∷ []) [] 0 14
-    ∷ unpacked (still 1539) (noughts 8188) (noughts 2047) 0 1
-    ∷ unpacked (pos 0 ∷ pos 50001 ∷ pos 0 ∷ []) [] [] 0 4
-    ∷ unpacked coordsFan (0 ∷ 1 ∷ 2 ∷ 3 ∷ 1 ∷ 2 ∷ 0 ∷ 4 ∷ []) (noughts 2) 115 9
+    ∷ notPacked (still 6661) (noughts 8196) (noughts 2049) 0 14
+    ∷ notPacked (pos 50001 ∷ []) (9 ∷ 9 ∷ 9 ∷ 9 ∷ []) [] 0 14
+    ∷ notPacked (still 1539) (noughts 8188) (noughts 2047) 0 1
+    ∷ notPacked (pos 0 ∷ pos 50001 ∷ pos 0 ∷ []) [] [] 0 4
+    ∷ notPacked coordsFan (0 ∷ 1 ∷ 2 ∷ 3 ∷ 1 ∷ 2 ∷ 0 ∷ 4 ∷ []) (noughts 2) 115 9
     ∷ []
 
 -- ---- the table

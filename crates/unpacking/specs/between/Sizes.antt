@@ -34,7 +34,7 @@ abbrev pub textRoom : ℕ
 textRoom = 65536
 
 -- vertex numbers of at most three digits
-pub record Few (ls : List ℕ) : Type 0 where
+pub record ThreeDigits (ls : List ℕ) : Type 0 where
   pub few : (i : ℕ) → getD ls i 0 < 1000
 
 -- lists that fit each other, and their text a room of so many bytes
@@ -42,4 +42,4 @@ pub record TextFits (cs : List ℤ) (ls ps : List ℕ) (room : ℕ) : Type 0 whe
   pub fours : length ls ≡ 4 * length ps
   pub fits : textMost (length cs / 3) (length ps) ≤ room
   pub close : Close cs
-  pub few : Few ls
+  pub few : ThreeDigits ls
