@@ -1,5 +1,5 @@
--- How long the text of a file can be. A coordinate in bounds has at most six characters, a vertex number of a file three, a
--- part five, and behind each stands a space or a line end.
+-- How long the text of a file can be. A coordinate in bounds has at most six characters, a vertex number of a file
+-- three, a part five, and behind each stands a space or a line end.
 -- Assumes nothing.
 use Prim.Native.Nat.{ℕ, _+_, _*_, _/_, _≤_, _<_}
 use mathlib.Core.Path.{_≡_}
