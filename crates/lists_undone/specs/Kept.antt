@@ -1,5 +1,5 @@
--- What lent lists keep of the lists that a text says: the fronts, whatever lengths they have. So what `pack` answers is
--- what is answered to the whole lists.
+-- What lent lists that begin as zeros keep of the lists that a text says: the fronts, whatever lengths they have. Of
+-- such lists `packing_front` promises the answer to the whole ones.
 -- Assumes nothing.
 use Prim.Native.Nat.{ℕ, _*_}
 use mathlib.Core.Path.{_≡_}
