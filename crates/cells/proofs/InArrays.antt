@@ -56,7 +56,7 @@ module _ (zs : List ℤ) (ls ps : List ℕ) where
     unfolding tetsOf ownNumbers owns belongs
     tets-in = keep-map (belongs m t c) (tetAt ls ps) (upTo (length ls / 4))
 
-    sides-in : (ks : List ℕ) → sides m t c ks ≡ sidesOf (row4 ls) numbers c ks
+    pub sides-in : (ks : List ℕ) → sides m t c ks ≡ sidesOf (row4 ls) numbers c ks
     unfolding sides
     sides-in ks = ap (λ es. sidesOf (λ e. e .vertices) es c ks) tets-in ∙ count-map (tetAt ls ps) (holds (at c ks)) numbers
 

@@ -90,7 +90,7 @@ pub fn is_tuple(coords: &[i64], c: &[u16], corners: usize) -> bool
 // ---- condition 2
 
 // Row i of the table is an edge of the mesh.
-fn edge(
+pub fn edge(
     labels: &[u16],
     n: usize,
     offsets: &[u16],
@@ -133,7 +133,7 @@ pub fn has_edges(
 // ---- condition 3
 
 // Row i of the table is a facet.
-fn facet(
+pub fn facet(
     labels: &[u16],
     n: usize,
     offsets: &[u16],
@@ -186,7 +186,7 @@ const FIRST: [u8; 6] = [0, 1, 2, 0, 2, 3];
 const SECOND: [u8; 6] = [0, 1, 3, 1, 2, 3];
 
 // Both triangles of a diagonal of quadrilateral i are facets.
-fn split(
+pub fn split(
     labels: &[u16],
     n: usize,
     offsets: &[u16],
@@ -250,7 +250,7 @@ pub fn has_faces(
 // ---- condition 4
 
 // The box at row i of the corner triples is above 0.
-fn sound_at(coords: &[i64], c: &[u16], rows: &[u8], i: usize) -> bool
+pub fn sound_at(coords: &[i64], c: &[u16], rows: &[u8], i: usize) -> bool
     requires { ⌜ (i < length (now rows) / 4) × Close (now coords) ⌝ }
     ensures { λ r. ⌜ r ≡ isAbove0 (boxOf (pointsOf (now (coords .entry))) (at (now (c .entry)) (row4 (now (rows .entry)) i))) ⌝ }
 {

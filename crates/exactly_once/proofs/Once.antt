@@ -68,7 +68,7 @@ pub kinds : pairwise differ templates ≡ true
 unfolding pairwise differ
 kinds = refl
 
-all-append : {A : Type 0} (p : A → Bool) (xs ys : List A) → all p (xs ++ ys) ≡ (all p xs && all p ys)
+pub all-append : {A : Type 0} (p : A → Bool) (xs ys : List A) → all p (xs ++ ys) ≡ (all p xs && all p ys)
 all-append p [] ys = refl
 all-append p (x ∷ xs) ys = go (p x) (all-append p xs ys)
   where

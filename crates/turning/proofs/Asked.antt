@@ -12,7 +12,7 @@ use Rattle.least.proofs.OneLeast.{one-least}
 use Rattle.turning.specs.declared.Least.the-variants.{Refused}
 use Rattle.turning.specs.Form.{leastBy, formOf, formBy, leastForm, leastNumber}
 
-template-of : {t : Template} → List·Memᴰ t templates → (isKind (t .kind) ≡ true) × (templateOf (t .kind) ≡ t)
+pub template-of : {t : Template} → List·Memᴰ t templates → (isKind (t .kind) ≡ true) × (templateOf (t .kind) ≡ t)
 template-of (List·Memᴰ·head q) = (ap (λ (t : Template). isKind (t .kind)) q, ap (λ (t : Template). templateOf (t .kind)) q ∙ sym q)
 template-of (List·Memᴰ·tail (List·Memᴰ·head q)) = (ap (λ (t : Template). isKind (t .kind)) q, ap (λ (t : Template). templateOf (t .kind)) q ∙ sym q)
 template-of (List·Memᴰ·tail (List·Memᴰ·tail (List·Memᴰ·head q))) = (ap (λ (t : Template). isKind (t .kind)) q, ap (λ (t : Template). templateOf (t .kind)) q ∙ sym q)

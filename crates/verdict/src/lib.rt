@@ -25,9 +25,9 @@ use judging::judge_found;
 pub use leaf::is_leaf;
 use record::TET_PLACES;
 use record::UNUSED;
-use rows::Bounds;
-use rows::all_rows;
-use rows::bounds_of;
+pub use rows::Bounds;
+pub use rows::all_rows;
+pub use rows::bounds_of;
 
 // Yes or no, and the tetrahedra of the cell where it is yes.
 pub struct Verdict {

@@ -1,0 +1,55 @@
+-- `failing::box_in` meets its contract. Assumes nothing.
+use mathlib.Core.Path.{_≡_, refl, sym, _∙_}
+use Prim.Native.Nat.{_/_, _-_}
+use lib.ListN.{length}
+use native.Mathlib.Omega.{arith}
+use borrow.Author.Tests.{not-true, not-false}
+use Rattle.space.specs.Box.{isAbove0}
+use Rattle.space.specs.Arrays.{row4}
+use Rattle.templates.specs.Tables.{at}
+use Rattle.cells.specs.Cells.{boxOf}
+use Rattle.cells.specs.between.Rows.{pointsOf}
+use Rattle.reasons.proofs.First.{FailUp, fail-start, fail-next, fail-found, fail-done}
+use Rattle.failing.proofs.box_in.Statement.{statement}
+use Rattle.failing.proofs.box_in.Tie as tie
+
+abbrev Inv-loop : tie.InvT-loop
+Inv-loop coords c rows k i₀ i = (k ≡ length rows / 4) × FailUp (λ ks. isAbove0 (boxOf (pointsOf coords) (at c ks))) (row4 rows) k i
+
+abbrev μ-loop : tie.MeasureT-loop
+μ-loop coords c rows k i₀ i = k - i
+
+loop-holds : tie.Need-loop-holds Inv-loop μ-loop
+loop-holds c = (refl, fail-start)
+
+sound-at-requires : tie.Need-sound-at-requires Inv-loop μ-loop
+sound-at-requires c κs = (omega arith, c .before .before .before .before .pre)
+
+returns : tie.Need-returns Inv-loop μ-loop
+returns c = fail-found (c .before .before .before .loop .inv .1) (omega arith) (sym (c .before .sound-at .ensures) ∙ not-true _ (c .if1 .taken))
+
+add-i : tie.Need-add-i Inv-loop μ-loop
+add-i c = omega arith
+
+loop-less : tie.Need-loop-less Inv-loop μ-loop
+loop-less c = omega arith
+
+loop-again : tie.Need-loop-again Inv-loop μ-loop
+loop-again c = (refl, fail-next (c .before .before .before .loop .inv .1) (omega arith) (sym (c .before .sound-at .ensures) ∙ not-false _ (c .if1 .left)))
+
+returns-2 : tie.Need-returns-2 Inv-loop μ-loop
+returns-2 c = fail-done (c .before .loop .inv .1) (omega arith)
+
+pub box-in-spec : {M : Type 1} → statement M
+box-in-spec =
+    tie.close
+    (tie.spec
+    Inv-loop
+    μ-loop
+    loop-holds
+    sound-at-requires
+    returns
+    add-i
+    loop-less
+    loop-again
+    returns-2)
