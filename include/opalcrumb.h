@@ -65,6 +65,26 @@ uint32_t opalcrumb_box(const int32_t p[3], const int32_t q[3], const int32_t r[3
  * it was. */
 uint32_t opalcrumb_least_form(uint16_t kind, const uint16_t corners[8], uint16_t least[8]);
 
+/* Why is this not a cell? kind and corners are as above. 0 and the ten entries of answer:
+ *
+ * answer[0] 0   a cell in least form; answer[1] to answer[8] are its corners
+ *           7   a cell, turned; answer[1] to answer[8] are its least form, which the list has
+ *           1   answer[1] is the place (0 for a) of the first corner that is no vertex of the mesh or
+ *               equals an earlier one
+ *           2   answer[1] is the row of the first edge that no tetrahedron has
+ *           3   answer[1] is the row of the first face that is no facet, or is not split into two
+ *           4   answer[1] is the row of the first corner whose box is not above 0
+ *           5   answer[1] is 0 and answer[2] the row of the first face that its tetrahedra do not close;
+ *               or answer[1] is 1 and answer[2] to answer[4] are the vertices, rising, of the least
+ *               other triple that is a facet of neither none nor two of them
+ *           6   its tetrahedra have more than one part number
+ *
+ * Rows count from 0 in the tables of docs/SCOPE.md, faces through the triangles and then through the
+ * quadrilaterals. All other entries are 0. 1 to 9 for the file, then 16 for another kind; answer is
+ * then as it was. */
+uint32_t opalcrumb_why(const uint8_t *file, size_t file_len, uint16_t kind, const uint16_t corners[8],
+                       uint16_t answer[10]);
+
 /* The next cells after a mark, as many as there is room for.
  *
  * mark      kind and corners a to h. Begin with 65535 and anything after it. It comes back as the

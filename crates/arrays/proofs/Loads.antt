@@ -4,7 +4,8 @@ use mathlib.Core.List.{List, _++_}
 use Prim.Native.Nat.{ℕ, _*_, _/_, _<_, _≤_}
 use native.Mathlib.Omega.{arith}
 use lib.IntN.{ℤ}
-use lib.ListN.{length}
+use lib.ListN.{length, take}
+use lib.Seq.{length-take-le}
 use Rattle.base.specs.Refusals.{firstOf}
 use Rattle.base.proofs.Refusals.{first-past, first-told}
 use Rattle.space.specs.Arrays.{meshOf}
@@ -17,6 +18,10 @@ use Rattle.arrays.specs.between.Loaded.{Loaded}
 use Rattle.arrays.specs.declared.Checked.the-variants.{Accepted}
 use Rattle.arrays.proofs.Answers.{header-framed, refusal-rest}
 use Rattle.arrays.proofs.Numbers.{numbers-passed, numbers-close, numbers-labelled}
+
+-- a front of a room that is lent: it is long enough
+pub reaches : (k j : ℕ) (l : List ℕ) → j ≤ length l → k ≤ j → k ≤ length (take j l)
+reaches k j l h i = rw (length-take-le j l h) i
 
 module _ (f : List ℕ) {n t : ℕ} (e : headed f ≡ Accepted n t) {zs : List ℤ} {ls ps : List ℕ} (a : zs ≡ coordsOf f) (b : ls ≡ labelsOf f) (d : ps ≡ partsOf f) where
   -- the arrays' lengths

@@ -15,6 +15,7 @@ ghost use Rattle.arrays.specs.Refusals.{refusal};
 ghost use Rattle.encoding.specs.File.{fileOf};
 ghost use Rattle.packing.specs.Packed.{packed, writtenNumber, roomAfter};
 ghost use Rattle.turning.specs.Form.{leastForm, leastNumber};
+ghost use Rattle.why.specs.Why.{explained, findingNumber, entriesLeft};
 ghost use Rattle.records.specs.Marks.{answerNumber};
 ghost use Rattle.opalcrumb.specs.Boundary.{lengthLeft, pointOf, boxedBy, boxLeft, leastLeft, markLeft, countLeft, endLeft, Passed};
 
@@ -109,6 +110,23 @@ pub extern "C" fn opalcrumb_least_form(kind: u16, corners: &[u16; 8], least: &mu
         }
         Least::Refused => 13,
     }
+}
+
+// 0 and what is found of a tuple in ten entries, or 1 to 9 or 16, and `answer` as it was. Entry 0 is 0 for a cell in
+// least form and 7 for a cell turned, both with their least form in entries 1 to 8; else the first condition that fails,
+// followed by where it fails.
+#[no_mangle]
+pub extern "C" fn opalcrumb_why(
+    file: &[u8],
+    kind: u16,
+    corners: &[u16; 8],
+    answer: &mut [u16; 10],
+) -> u32
+    ensures number { λ k. ⌜ k ≡ findingNumber (explained (now (file .entry)) kind (now (corners .entry))) ⌝ }
+    ensures answer { λ k. ⌜ now (answer .exit) ≡ entriesLeft (explained (now (file .entry)) kind (now (corners .entry))) (now (answer .entry)) ⌝ }
+{
+    let found = why::explain(file, kind, corners);
+    why::hand_out(found, answer) as u32
 }
 
 // ---- a portion

@@ -8,8 +8,7 @@ use native.Mathlib.Omega.{arith}
 use borrow.Author.Tests.{ne-eqb}
 use lib.Dec.{eqb, ltb}
 use lib.IntN.{ℤ}
-use lib.ListN.{length, take}
-use lib.Seq.{length-take-le}
+use lib.ListN.{length}
 use Rattle.base.specs.Lists.{all, upTo, distinct}
 use Rattle.base.proofs.Lists.{both-right}
 use Rattle.base.proofs.Loop.{length-up}
@@ -90,7 +89,3 @@ handed old e = (ap findingNumber e, ap (λ w. entriesLeft w old) e)
 
 pub as-counted : {zs : List ℤ} {ls ps os es : List ℕ} {n : ℕ} → Arrays zs ls ps n os es → Arrays zs ls ps (length zs / 3) os es
 as-counted a = rw (a .counted) a
-
--- a front that is long enough
-pub reaches : (k j : ℕ) (l : List ℕ) → j ≤ length l → k ≤ j → k ≤ length (take j l)
-reaches k j l h i = rw (length-take-le j l h) i

@@ -1,10 +1,10 @@
 -- `listing::portion_framed` meets its contract. Assumes nothing.
 use mathlib.Core.Path.{sym}
-use mathlib.Core.List.{List}
-use Prim.Native.Nat.{ℕ, suc, _+_, _*_, _≤_}
+use Prim.Native.Nat.{suc, _+_, _*_}
 use native.Mathlib.Omega.{arith}
-use lib.ListN.{length, take, replicate}
+use lib.ListN.{replicate}
 use lib.Seq.{length-take-le}
+use Rattle.arrays.proofs.Loads.{reaches}
 use borrow.Author.Needs.{needs}
 use Rattle.listing.proofs.portion_framed.Statement.{statement}
 use Rattle.listing.proofs.portion_framed.Tie as tie
@@ -14,10 +14,6 @@ mul-coords c = search needs
 
 array-borrow-prefix-coords : tie.Need-array-borrow-prefix-coords
 array-borrow-prefix-coords c = search needs
-
--- a front that is long enough
-reaches : (k j : ℕ) (l : List ℕ) → j ≤ length l → k ≤ j → k ≤ length (take j l)
-reaches k j l h i = rw (length-take-le j l h) i
 
 slice-aggregate-portion-in : tie.Need-slice-aggregate-portion-in
 slice-aggregate-portion-in c = sym (length-take-le _ _ (search needs))

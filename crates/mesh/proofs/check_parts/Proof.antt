@@ -1,10 +1,10 @@
 -- `mesh::check_parts` meets its contract: the answer by the number that was told. Assumes nothing.
 use mathlib.Core.Path.{sym, _∙_}
-use mathlib.Core.List.{List}
-use Prim.Native.Nat.{ℕ, suc, _+_, _*_, _≤_}
+use Prim.Native.Nat.{suc, _+_, _*_}
 use native.Mathlib.Omega.{arith}
-use lib.ListN.{length, take, replicate}
+use lib.ListN.{replicate}
 use lib.Seq.{length-take-le}
+use Rattle.arrays.proofs.Loads.{reaches}
 use Rattle.arrays.proofs.Answers.{answer-refused, answer-accepted}
 use borrow.Author.Needs.{needs}
 use Rattle.mesh.proofs.check_parts.Statement.{statement}
@@ -15,10 +15,6 @@ mul-coords c = search needs
 
 array-borrow-prefix-coords : tie.Need-array-borrow-prefix-coords
 array-borrow-prefix-coords c = search needs
-
--- a front that is long enough
-reaches : (k j : ℕ) (l : List ℕ) → j ≤ length l → k ≤ j → k ≤ length (take j l)
-reaches k j l h i = rw (length-take-le j l h) i
 
 slice-aggregate-load : tie.Need-slice-aggregate-load
 slice-aggregate-load c = sym (length-take-le _ _ (search needs))

@@ -1,11 +1,10 @@
 -- `why::explain_framed` meets its contract. Assumes nothing.
 use mathlib.Core.Path.{sym}
-use mathlib.Core.List.{List}
-use Prim.Native.Nat.{ℕ, suc, _+_, _*_, _≤_}
+use Prim.Native.Nat.{suc, _+_, _*_}
 use native.Mathlib.Omega.{arith}
-use lib.ListN.{length, take, replicate}
+use lib.ListN.{replicate}
 use lib.Seq.{length-take-le}
-use Rattle.why.proofs.Found.{reaches}
+use Rattle.arrays.proofs.Loads.{reaches}
 use borrow.Author.Needs.{needs}
 use Rattle.why.proofs.explain_framed.Statement.{statement}
 use Rattle.why.proofs.explain_framed.Tie as tie
