@@ -5,6 +5,7 @@
 // at most that many, and then `end` with how many those were, where none remain, or `mark` with the mark to go on from.
 // A refusal is `refused` with its number.
 // With `pack` or `unpack`: lists to a mesh file, or back (`pack_job`, `unpack_job`).
+// With `why`, a kind and eight numbers: why that tuple is not a cell (`why_job`).
 //
 // What is listed is the promise of `listing::portion`, and what a line says that of `lines`; here stand only the calls
 // and the writing. A write that fails ends a listing at once, so that no last line follows a cell that was lost.
@@ -281,7 +282,7 @@ fn number_at(i: usize, most: u64) -> Word
     number_in(&buf[..n], most)
 }
 
-// A corner of the mark: argument `i`, or 65,536 where it is no number of 16 bits.
+// A kind or a corner: argument `i`, or 65,536 where it is no number of 16 bits.
 fn corner(i: usize) -> u64
     ensures { λ r. ⌜ r ≤ 65536 ⌝ }
 {
@@ -295,17 +296,17 @@ fn corner(i: usize) -> u64
 fn complain() {
     io::write_all(
         STDERR_FILENO,
-        b"combine: no words, pack, unpack, or ten words: a kind, eight numbers and a room\n",
+        b"combine: no words, pack, unpack, ten words (a kind, eight numbers and a room), or why, a kind and eight numbers\n",
     );
 }
 
-// Fills the mark's numbers from the arguments, and answers whether each is one of 16 bits.
-fn read_mark(numbers: &mut [u16]) -> bool
-    requires { ⌜ length (now numbers) ≡ 9 ⌝ }
+// Fills a kind and eight numbers from the arguments, from `first` on, and answers whether each is one of 16 bits.
+fn read_numbers(numbers: &mut [u16], first: usize) -> bool
+    requires { ⌜ (length (now numbers) ≡ 9) × (first ≤ 2) ⌝ }
 {
     let mut i = 0;
     while i < numbers.len() {
-        let x = corner(i + 1);
+        let x = corner(first + i);
         if x > 65535 {
             return false;
         }
@@ -325,8 +326,21 @@ fn list_asked(text: &mut [u8], file: &[u8])
         return;
     };
     let mut numbers = [0u16; 9];
-    if read_mark(&mut numbers) {
+    if read_numbers(&mut numbers, 1) {
         list_from(text, file, mark_of(numbers), room);
+    } else {
+        complain();
+    }
+}
+
+// What is found of the tuple that the arguments name.
+fn why_asked(text: &mut [u8], file: &[u8])
+    requires { ⌜ length (now text) ≡ 65536 ⌝ }
+{
+    let mut n = [0u16; 9];
+    if read_numbers(&mut n, 2) {
+        let tuple = [n[1], n[2], n[3], n[4], n[5], n[6], n[7], n[8]];
+        why_job::tell(text, file, n[0], tuple);
     } else {
         complain();
     }
@@ -367,9 +381,11 @@ fn is_word(text: &[u8], word: &[u8]) -> bool {
     true
 }
 
-// Whether the only argument is this word.
-fn is_asked(word: &[u8]) -> bool {
-    if os::arg_count() != 2 {
+// Whether the first argument is this word, and so many follow it.
+fn is_asked(word: &[u8], more: usize) -> bool
+    requires { ⌜ more ≤ 9 ⌝ }
+{
+    if os::arg_count() != 2 + more {
         return false;
     }
     let mut buf = io::buffer();
@@ -388,13 +404,17 @@ fn file_room() -> [u8; 26649]
 fn work(text: &mut [u8], bytes: &mut [u8])
     requires { ⌜ length (now text) ≡ 65536 ⌝ }
 {
-    if is_asked(b"pack") {
+    if is_asked(b"pack", 0) {
         pack_job::pack(text, bytes);
         return;
     }
     let n = io::read_full(STDIN_FILENO, bytes);
-    if is_asked(b"unpack") {
+    if is_asked(b"unpack", 0) {
         unpack_job::unpack(text, &bytes[..n]);
+        return;
+    }
+    if is_asked(b"why", 9) {
+        why_asked(text, &bytes[..n]);
         return;
     }
     run(text, &bytes[..n]);

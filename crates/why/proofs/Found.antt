@@ -27,7 +27,7 @@ use Rattle.cells.specs.Cells.{inside, boxOf, boxAt, isTuple, isFacet, firstFail
 use Rattle.cells.specs.between.Rows.{pointsOf, facetIn}
 use Rattle.cells.proofs.InArrays.{sides-in}
 use Rattle.reasons.specs.declared.Finding.{Finding}
-use Rattle.reasons.specs.declared.Finding.the-variants.{Cell, Turned, BadCorner, NoEdge, NoFace, BadBox, TwoParts, Refused}
+use Rattle.reasons.specs.declared.Finding.the-variants.{Cell, Turned, BadCorner, NoEdge, NoFace, BadBox, OpenFace, OpenTriple, TwoParts, Refused}
 use Rattle.reasons.specs.First.{firstFail}
 use Rattle.reasons.specs.Reason.{isNew, faces, isThere, others, leastTurn, foundCell, foundOpen, findingAt}
 use Rattle.open_triples.specs.between.Best.{openBy}
@@ -84,6 +84,18 @@ told-cell k vs e d = rw (e, d)
 
 pub handed : {v w : Finding} (old : List ℕ) → v ≡ w → (findingNumber v ≡ findingNumber w) × (entriesLeft v old ≡ entriesLeft w old)
 handed old e = (ap findingNumber e, ap (λ w. entriesLeft w old) e)
+
+pub entries-long : (w : Finding) (old : List ℕ) → length old ≡ 10 → length (entriesLeft w old) ≡ 10
+entries-long (Cell a b c d e f g h) old l = refl
+entries-long (Turned a b c d e f g h) old l = refl
+entries-long (BadCorner i) old l = refl
+entries-long (NoEdge i) old l = refl
+entries-long (NoFace i) old l = refl
+entries-long (BadBox i) old l = refl
+entries-long (OpenFace i) old l = refl
+entries-long (OpenTriple u v w) old l = refl
+entries-long TwoParts old l = refl
+entries-long (Refused r) old l = l
 
 -- ---- the arrays, by the number of vertices that they hold
 

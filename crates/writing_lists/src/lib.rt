@@ -10,7 +10,7 @@ ghost use Rattle.base.specs.Lists.{spread};
 ghost use Rattle.writing_lists.specs.Printed.{signedText, apart, lineOf};
 
 // How far a number is from 0. The least one has no i64 above 0 of its size, so 1 is put aside.
-fn size_of(z: i64) -> u64
+pub fn size_of(z: i64) -> u64
     ensures { λ r. ⌜ r ≡ natAbs z ⌝ }
 {
     if z < 0 {

@@ -1,16 +1,16 @@
--- `combine::read_mark` meets its contract. Assumes nothing.
+-- `combine::read_numbers` meets its contract. Assumes nothing.
 use mathlib.Core.Path.{_≡_}
 use Prim.Native.Nat.{_-_, _≤_}
 use borrow.Author.Needs.{needs}
 use lib.ListN.{length}
-use Rattle.combine.proofs.read_mark.Statement.{statement}
-use Rattle.combine.proofs.read_mark.Tie as tie
+use Rattle.combine.proofs.read_numbers.Statement.{statement}
+use Rattle.combine.proofs.read_numbers.Tie as tie
 
 abbrev Inv-loop : tie.InvT-loop
-Inv-loop numbers₀ i₀ numbers i = (i ≤ 9) × (length numbers ≡ length numbers₀)
+Inv-loop numbers₀ first i₀ numbers i = (i ≤ 9) × (length numbers ≡ length numbers₀)
 
 abbrev μ-loop : tie.MeasureT-loop
-μ-loop numbers₀ i₀ numbers i = 9 - i
+μ-loop numbers₀ first i₀ numbers i = 9 - i
 
 loop-holds : tie.Need-loop-holds Inv-loop μ-loop
 loop-holds c = search needs
@@ -51,8 +51,8 @@ same-length-2 c = search needs
 returns-2 : tie.Need-returns-2 Inv-loop μ-loop
 returns-2 c = search needs
 
-pub read-mark-spec : {M : Type 1} → statement M
-read-mark-spec =
+pub read-numbers-spec : {M : Type 1} → statement M
+read-numbers-spec =
     tie.close
     (tie.spec
     Inv-loop
