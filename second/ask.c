@@ -167,6 +167,19 @@ static void ask_write(void) {
     put(room, room_len + 2 * GUARD);
 }
 
+/* The kind, the corners, and the answer between eight entries on either side. */
+static void ask_why(void) {
+    uint16_t kind, corners[8], answer[26];
+    get(&kind, sizeof kind);
+    get(corners, sizeof corners);
+    get(answer, sizeof answer);
+    uint32_t refused = opalcrumb_why(LENT(file, file_len), file_len, kind, corners, answer + 8), kept = file_kept();
+    put(&refused, 4);
+    put(&kept, 4);
+    put(corners, sizeof corners);
+    put(answer, sizeof answer);
+}
+
 int main(void) {
     for (;;) {
         switch (get32()) {
@@ -176,6 +189,7 @@ int main(void) {
         case 3: ask_least(); break;
         case 4: ask_portion(); break;
         case 5: ask_write(); break;
+        case 6: ask_why(); break;
         default: return 4;
         }
     }

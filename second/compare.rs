@@ -3,6 +3,7 @@
 // The library is asked through second/ask.c, which hands back all that it could have written and
 // what lies around it. The first difference ends the run; its mesh and its question are saved.
 use crate::cells::least_form;
+use crate::compare_why::Met;
 use crate::families::{cube, pyramid, with_faults, Family, FAMILIES};
 use crate::make::Dice;
 use crate::mesh::{in_bounds, read, spans};
@@ -48,6 +49,7 @@ pub struct Comparison<'a> {
     pub meshes: u64,
     questions: u64,
     pub dice: Dice,
+    pub met: Met,
 }
 
 // The questions that were put so far, by all workers; and who may report a difference.
@@ -93,7 +95,7 @@ impl Comparison<'_> {
         let to = BufWriter::new(ask.stdin.take().unwrap());
         let from = BufReader::with_capacity(1 << 16, ask.stdout.take().unwrap());
         let dice = Dice::new(plan.seed);
-        Comparison { plan, library: ask, to, from, now: Asked::default(), meshes: 0, questions: 0, dice }
+        Comparison { plan, library: ask, to, from, now: Asked::default(), meshes: 0, questions: 0, dice, met: Met::default() }
     }
 
     // Reports a difference and ends everything; the first worker to find one reports it.
@@ -145,7 +147,7 @@ impl Comparison<'_> {
         u32::from_le_bytes([b[0], b[1], b[2], b[3]])
     }
 
-    fn get_words(&mut self, len: usize) -> Vec<u16> {
+    pub fn get_words(&mut self, len: usize) -> Vec<u16> {
         self.get(2 * len).chunks(2).map(|b| u16::from_le_bytes([b[0], b[1]])).collect()
     }
 
@@ -630,9 +632,10 @@ const LONGEST_PART: &str = "damaged";
 fn parts() -> Vec<Part> {
     let mut parts = vec![
         Part::Other("boxes", |c| c.boxes()),
-        Part::Other("least-forms", |c| c.least_forms()),
         Part::Other("kinds", |c| c.kinds()),
         Part::Other("refusals", |c| c.refusals()),
+        Part::Other("why-shown", |c| c.why_shown()),
+        Part::Other("least-forms", |c| c.least_forms()),
         Part::Other("pack-damaged", |c| c.pack_damaged()),
         Part::Other("pack-texts", |c| c.pack_texts()),
         Part::Other("truncated", |c| c.truncated()),
@@ -642,6 +645,10 @@ fn parts() -> Vec<Part> {
     parts.push(Part::Other("pack-lists", |c| c.pack_lists()));
     parts.push(Part::Other("pack-round", |c| c.pack_round()));
     parts.push(Part::Other("chains", |c| c.chains()));
+    parts.push(Part::Other("why-turned", |c| c.why_turned()));
+    parts.push(Part::Other("why-cut", |c| c.why_cut()));
+    parts.push(Part::Other("why-any", |c| c.why_any()));
+    parts.push(Part::Other("why-refused", |c| c.why_refused()));
     parts
 }
 
@@ -652,6 +659,7 @@ struct Progress {
     told: usize,
     meshes: u64,
     questions: u64,
+    met: Met,
 }
 
 impl Progress {
@@ -678,6 +686,7 @@ fn work(plan: &Plan, parts: &[Part], progress: &Mutex<Progress>) {
     let mut sums = progress.lock().unwrap();
     sums.meshes += comparison.meshes;
     sums.questions += comparison.questions;
+    sums.met.add(std::mem::take(&mut comparison.met));
     comparison.end();
 }
 
@@ -690,7 +699,7 @@ pub fn compare(plan: &Plan) {
         left.make_contiguous().sort_by_key(|i| parts[*i].name() != LONGEST_PART);
     }
     let lines = vec![None; parts.len()];
-    let progress = Mutex::new(Progress { left, lines, told: 0, meshes: 0, questions: 0 });
+    let progress = Mutex::new(Progress { left, lines, told: 0, meshes: 0, questions: 0, met: Met::default() });
     watch();
     std::thread::scope(|scope| {
         for _ in 0..plan.workers {
@@ -698,6 +707,7 @@ pub fn compare(plan: &Plan) {
         }
     });
     let sums = progress.into_inner().unwrap();
+    sums.met.lines().iter().for_each(|line| println!("{}", line));
     println!("compared: {} meshes, {} questions, no difference", sums.meshes, sums.questions);
 }
 

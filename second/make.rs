@@ -1,5 +1,5 @@
 // Meshes to ask about, made from a seed. Nothing here knows of cells.
-use crate::mesh::{rising3, spans, without};
+use crate::mesh::{rising3, spans, without, Mesh};
 use std::collections::HashMap;
 
 // A small generator of numbers that look random (splitmix64).
@@ -49,6 +49,15 @@ fn wide(p: &[i32; 3]) -> [i128; 3] {
 }
 
 impl Draft {
+    // The draft of a mesh that was read.
+    pub fn of(mesh: &Mesh) -> Draft {
+        Draft {
+            points: mesh.points.iter().map(|p| p.map(|c| c as i32)).collect(),
+            tets: mesh.tetrahedra.iter().map(|t| t.corners).collect(),
+            parts: mesh.tetrahedra.iter().map(|t| t.part).collect(),
+        }
+    }
+
     pub fn volume(&self, t: [u16; 4]) -> i128 {
         let at = |v: u16| wide(&self.points[v as usize]);
         spans(&at(t[0]), &at(t[1]), &at(t[2]), &at(t[3]))
@@ -150,6 +159,36 @@ impl Draft {
         });
         self.parts.truncate(self.tets.len());
         self
+    }
+
+    pub fn without_one(mut self, i: usize) -> Draft {
+        self.tets.remove(i);
+        self.parts.remove(i);
+        self
+    }
+
+    // A new vertex on an edge, on a facet or inside a tetrahedron, by its two, three or four corners: of every
+    // tetrahedron that has them all there is then one for each, with the new vertex in its place.
+    pub fn split(&self, on: &[u16], at: [i32; 3]) -> Draft {
+        let new = self.points.len() as u16;
+        let mut d = Draft { points: self.points.clone(), ..Draft::default() };
+        d.points.push(at);
+        for (t, part) in self.tets.iter().zip(&self.parts) {
+            let pieces: Vec<[u16; 4]> = if on.iter().all(|v| t.contains(v)) {
+                on.iter().map(|v| t.map(|w| if w == *v { new } else { w })).collect()
+            } else {
+                vec![*t]
+            };
+            d.parts.extend(pieces.iter().map(|_| *part));
+            d.tets.extend(pieces);
+        }
+        d
+    }
+
+    // A point about the middle of some vertices.
+    pub fn middle(&self, dice: &mut Dice, of: &[u16], by: i32) -> [i32; 3] {
+        let sum = |axis: usize| of.iter().map(|v| self.points[*v as usize][axis]).sum::<i32>();
+        [0, 1, 2].map(|axis| sum(axis) / of.len() as i32 + dice.between(-by, by))
     }
 
     // Drops the vertices that no tetrahedron names.

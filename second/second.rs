@@ -5,6 +5,8 @@
 //                                 at most K cells after the mark, then the end or the mark reached
 //   second pack < TEXT            the mesh file of the lists in a text; `refused` or `wrong` on standard error
 //   second unpack < MESH          the lists of a mesh file as a text; `refused` on standard error
+//   second why MESH KIND A B ..   why a tuple is no cell: the ten entries, and on a second line what was found;
+//                                 places that are not given are 0
 //   second make FAMILY NUMBER [SEED]
 //                                 writes one mesh of a family to standard output
 //   second compare --ask ASK [--program PROGRAM] [--seed N] [--scale K] [--only FAMILY] [--save DIR] [--workers K]
@@ -20,12 +22,14 @@
 mod cells;
 mod compare;
 mod compare_pack;
+mod compare_why;
 mod families;
 mod make;
 mod mesh;
 mod pack;
 mod portion;
 mod slips;
+mod why;
 
 use compare::{stop, Plan};
 use std::io::{Read, Write};
@@ -58,6 +62,18 @@ fn tell(told: pack::Told) {
     print(&told.out);
     eprint!("{}", told.err);
     std::process::exit(told.status);
+}
+
+fn why(name: &str, kind: u16, given: &[String]) {
+    let file = std::fs::read(name).unwrap_or_else(|_| stop(&format!("cannot read {}", name)));
+    if given.len() > 8 || why::rows(kind).is_some() && given.len() < kind as usize {
+        stop("the corners are a kind's, or eight");
+    }
+    let mut corners = [0; 8];
+    for (place, word) in corners.iter_mut().zip(given) {
+        *place = number(word);
+    }
+    print(why::tell(&file, kind, &corners).as_bytes());
 }
 
 fn make(name: &str, which: usize, seed: u64) {
@@ -131,6 +147,7 @@ fn main() {
         }
         "pack" if args.len() == 1 => tell(pack::tell_packed(&input())),
         "unpack" if args.len() == 1 => tell(pack::tell_unpacked(&input())),
+        "why" if args.len() >= 3 => why(&args[1], number(&args[2]), &args[3..]),
         "make" if args.len() == 3 || args.len() == 4 => {
             make(&args[1], number(&args[2]), args.get(3).map_or(1, |s| number(s)))
         }
@@ -139,6 +156,6 @@ fn main() {
         "timed" if args.len() == 2 => timed(&args[1]),
         "survey" if args.len() <= 2 => survey(args.get(1).map_or(1, |s| number(s))),
         "slips" => slips::NAMES.iter().for_each(|s| println!("{}: {}", s.0, s.1)),
-        _ => stop("usage: second list | portion | pack | unpack | make | compare | agree | timed | survey | slips (see second/second.rs)"),
+        _ => stop("usage: second list | portion | pack | unpack | why | make | compare | agree | timed | survey | slips (see second/second.rs)"),
     }
 }

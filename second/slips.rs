@@ -50,6 +50,22 @@ slips! {
     past_cleared = "past-cleared", "the byte behind the file is cleared";
     comment_in_word = "comment-in-word", "a comment begins between words alone";
     no_number_first = "no-number-first", "a word too many that is no number is told as no number";
+    later_edge = "later-edge", "of a tuple's edges that are none of the mesh the last is named";
+    squares_first = "squares-first", "quadrilaterals are counted before triangles";
+    place_from_one = "place-from-one", "the place of a corner is counted from 1";
+    equal_corner = "equal-corner", "a corner that equals an earlier one is overlooked";
+    unused_corner = "unused-corner", "places beyond a kind's corners must be vertices too";
+    zero_box = "zero-box", "a corner triple whose box is zero is passed over";
+    on_square_in = "on-square-in", "a tuple's tetrahedra have those on one quadrilateral among them";
+    triple_first = "triple-first", "an offending triple is told before an offending face";
+    first_triple = "first-triple", "the offending triple that is first by its letters is told";
+    faces_passed = "faces-passed", "a triple on a quadrilateral's other diagonal is passed over";
+    triple_as_it_is = "triple-as-it-is", "the vertices of a triple stand in the order of its letters";
+    box_before_face = "box-before-face", "condition 4 is told before condition 3";
+    parts_before_facets = "parts-before-facets", "condition 6 is told before condition 5";
+    left_unturned = "left-unturned", "a cell's tuple is told as it was asked for";
+    kind_before_nine = "kind-before-nine", "another kind is told before refusal 9";
+    answer_cleared = "answer-cleared", "a refusal clears the answer";
 }
 
 static NOW: AtomicUsize = AtomicUsize::new(usize::MAX);
