@@ -1,2 +1,4 @@
+pub mod Asked
 pub mod Lists
+pub mod Opened
 pub mod Worked

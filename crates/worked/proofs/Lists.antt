@@ -4,20 +4,20 @@ use Prim.Native.Nat.{ℕ}
 use mathlib.Core.Path.{_≡_, refl, sym, _∙_}
 use mathlib.Core.List.{[], _∷_}
 use lib.IntN.{pos}
-use Rattle.base.specs.Lists.{keep, spread, equal}
-use Rattle.space.specs.Box.{box}
-use Rattle.space.specs.Mesh.{together}
+use Rattle.base.specs.Lists.{equal}
 use Rattle.templates.specs.Tables.{hexahedron}
-use Rattle.cells.specs.Cells.{oneDiagonal, otherDiagonal, corner3, inside, one, noneOrTwo, isTuple, hasEdges, isFacet, isSplit, hasFaces, boxAt, isSound, belongs, tetsOf, numbersFrom, numbersOf, sides, isOnce, isPaired, isCovered, isFilledBy, isFilled, isOnePart, isCell, firstFailing}
+use Rattle.cells.specs.Cells.{numbersFrom, numbersOf, isCell, firstFailing}
 use Rattle.cells.specs.Full.{allowed, grow, cellsOf, fullList}
 use Rattle.exactly_once.specs.between.Pruned.{linked, prunedOf, prunedList}
 use Rattle.exactly_once.proofs.Search.{found-all, found-hexahedra}
 use Rattle.worked.specs.Meshes.{meshP, meshP', meshC, meshC', cellC, listP, listP', listC}
-use Rattle.worked.specs.Rows.{listed, counted, judged, counts, withTets, ask, lists, RowsHold}
+use Rattle.worked.specs.Questions.{listed, counted, judged, counts, withTets, ask, RowsHold}
+use Rattle.worked.specs.Rows.{lists}
+use Rattle.worked.proofs.Opened.{weighing}
 
 -- what a list of cells is computed by
 unfoldable opened : ℕ
-unfolding keep spread together box oneDiagonal otherDiagonal corner3 inside one noneOrTwo isTuple hasEdges isFacet isSplit hasFaces boxAt isSound belongs tetsOf numbersFrom numbersOf sides isOnce isPaired isCovered isFilledBy isFilled isOnePart isCell allowed grow linked prunedOf prunedList
+unfolding weighing numbersFrom numbersOf isCell allowed grow linked prunedOf prunedList
 opened = 0
 
 pub full-P : fullList meshP ≡ listP

@@ -10,13 +10,9 @@ use lib.Dec.{eqb, ltb}
 use lib.ListN.{length, drop}
 use Rattle.base.specs.Lists.{keep, spread}
 use Rattle.base.specs.Refusals.{firstOf}
-use Rattle.space.specs.Box.{box}
 use Rattle.space.specs.Mesh.{together}
-use Rattle.layout.specs.Bytes.{signed32, i32At}
-use Rattle.layout.specs.Layout.{vertices, decoded, lengthRight, countsRight, layoutRight, coordsIn, labelsIn, partsIn}
-use Rattle.tets.specs.Tets.{boxIn, outside, twice, flat}
-use Rattle.facets.specs.Facets.{opposite, full, crowded, astray, clashes, clashing, folded}
-use Rattle.arrays.specs.Refusals.{refusals, refusal, answered}
+use Rattle.layout.specs.Layout.{vertices, decoded}
+use Rattle.arrays.specs.Refusals.{refusals, refusal}
 use Rattle.least.specs.Least.{firstIsLess, risesAt}
 use Rattle.turning.specs.Form.{leastBy, formBy, leastForm}
 use Rattle.cells.specs.Full.{Cell, fullList}
@@ -32,15 +28,14 @@ use Rattle.listing.proofs.File.{accepted-passed}
 use Rattle.encoding.specs.File.{u16Bytes, u32Bytes, bitsOf, i32Bytes, headerBytes, tetBytes, fileOf}
 use Rattle.packing.specs.Packed.{lengthsFit, writtenUnless, packed}
 use Rattle.worked.specs.Meshes.{meshP, meshC, listP, listC}
-use Rattle.worked.specs.Rows.{fileP, fileC, mixed, turned, tableP, tableC, Reply, left, calling, ask, forms, calls, checks, packings, RowsHold, Worked}
+use Rattle.worked.specs.Files.{fileP, fileC, mixed, turned}
+use Rattle.worked.specs.Questions.{Reply, left, calling, ask, RowsHold}
+use Rattle.worked.specs.Rows.{tableP, tableC, forms, calls, checks, packings, Worked}
+use Rattle.worked.proofs.Asked.{asked-hold}
+use Rattle.worked.proofs.Opened.{reading}
 use Rattle.worked.proofs.Lists.{full-P, full-C, full-mixed, lists-hold}
 
 -- ---- the files' meshes and refusals
-
--- what an answer of the check is computed by
-unfoldable reading : ℕ
-unfolding box signed32 i32At lengthRight countsRight layoutRight coordsIn labelsIn partsIn boxIn opposite outside twice flat full crowded astray clashes clashing folded firstOf refusal answered
-reading = 0
 
 reads-P : decoded fileP ≡ meshP
 unfolding reading
@@ -199,4 +194,4 @@ calls-hold =
     also refl
 
 pub worked : Worked
-worked = λ i. lists-hold i ++ forms-hold i ++ calls-hold i ++ checks-hold i ++ packings-hold i
+worked = λ i. lists-hold i ++ forms-hold i ++ calls-hold i ++ checks-hold i ++ packings-hold i ++ asked-hold i

@@ -44,12 +44,15 @@ file vs ts =
 abbrev pub tent : List (List ℕ) → List ℕ
 tent ts = file (vertex 0 0 0 ∷ vertex 2 0 0 ∷ vertex 2 2 0 ∷ vertex 0 2 0 ∷ vertex 0 0 2 ∷ []) ts
 
--- the unit cube, with this last tetrahedron
-abbrev pub cube : List ℕ → List ℕ
-cube e =
+-- the unit cube, with these tetrahedra behind those at four of its corners; and with this one
+abbrev pub cubeWith : List (List ℕ) → List ℕ
+cubeWith ts =
     file
     (vertex 0 0 0 ∷ vertex 1 0 0 ∷ vertex 1 1 0 ∷ vertex 0 1 0 ∷ vertex 0 0 1 ∷ vertex 1 0 1 ∷ vertex 1 1 1 ∷ vertex 0 1 1 ∷ [])
-    (joins 0 1 2 5 ∷ joins 0 2 3 7 ∷ joins 0 5 7 4 ∷ joins 2 5 6 7 ∷ e ∷ [])
+    (joins 0 1 2 5 ∷ joins 0 2 3 7 ∷ joins 0 5 7 4 ∷ joins 2 5 6 7 ∷ ts)
+
+abbrev pub cube : List ℕ → List ℕ
+cube e = cubeWith (e ∷ [])
 
 -- 0 1 2 is a facet; 3 and 4 are above it, 5 is below
 abbrev pub fan : List (List ℕ) → List ℕ
@@ -58,3 +61,17 @@ fan ts = file (vertex 0 0 0 ∷ vertex 2 0 0 ∷ vertex 0 2 0 ∷ vertex 0 0 2 �
 -- one vertex
 abbrev pub lone : ℕ → ℕ → ℕ → List ℕ
 lone x y z = file (vertex x y z ∷ []) []
+
+-- two tetrahedra on one facet
+abbrev pub fileP : List ℕ
+fileP = tent (joins 0 1 2 4 ∷ joins 0 2 3 4 ∷ [])
+
+-- the cube; with its last tetrahedron in part 1; with that tetrahedron's vertices in another order
+abbrev pub fileC : List ℕ
+fileC = cube (joins 0 5 2 7)
+
+abbrev pub mixed : List ℕ
+mixed = cube (u16 0 ++ u16 5 ++ u16 2 ++ u16 7 ++ u16 1)
+
+abbrev pub turned : List ℕ
+turned = cube (joins 0 2 5 7)

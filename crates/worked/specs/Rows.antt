@@ -1,55 +1,26 @@
 -- The meshes worked by hand, in one table of questions and answers under one claim: their full lists and tuples that
--- fail; least forms; from the bytes of their files the check's answer, calls of `portion` and boxes; and from lists
--- their files.
+-- fail; least forms; from the bytes of their files the check's answer, calls of `portion`, boxes and why tuples are not
+-- cells; and from lists their files.
 -- Assumes nothing.
 use Prim.Native.Nat.{ℕ}
-use mathlib.Core.Path.{_≡_}
 use mathlib.Core.Bool.{true, false}
-use mathlib.Core.List.{List, [], _∷_, _++_, map}
-use lib.Dec.{eqb}
+use mathlib.Core.List.{List, [], _∷_, _++_}
 use lib.IntN.{ℤ, pos, negsuc}
 use lib.ListN.{length, take, replicate}
-use Rattle.base.specs.Lists.{keep, equal}
-use Rattle.space.specs.Box.{box}
-use Rattle.space.specs.Mesh.{Mesh, point}
-use Rattle.layout.specs.Layout.{vertices, decoded}
-use Rattle.arrays.specs.Refusals.{refusals, checked}
-use Rattle.arrays.specs.declared.Checked.{Checked}
 use Rattle.arrays.specs.declared.Checked.the-variants.{Accepted, Refused}
-use Rattle.templates.specs.Tables.{Template, hexahedron, pyramid, at}
-use Rattle.turning.specs.declared.Least.{Least}
+use Rattle.templates.specs.Tables.{hexahedron, pyramid}
 use Rattle.turning.specs.declared.Least.the-variants.{Form, Refused as NoForm}
-use Rattle.turning.specs.Form.{leastForm, leastNumber}
-use Rattle.cells.specs.Cells.{boxAt, firstFailing}
-use Rattle.cells.specs.Full.{Cell, cell, cellsOf, fullList}
+use Rattle.cells.specs.Full.{cell}
 use Rattle.portions.specs.Portions.{Answer, refused, given, records}
 use Rattle.rule.specs.Rule.{tetRule}
-use Rattle.portioning.specs.Portion.{portionBy, tableLeft, roomLeft}
-use Rattle.encoding.specs.File.{fileOf}
-use Rattle.packing.specs.Packed.{packed, roomAfter}
-use Rattle.packing.specs.declared.Written.{Written}
 use Rattle.packing.specs.declared.Written.the-variants.{Whole, Refused as Unwritten}
-use Rattle.worked.specs.Files.{u16, header, vertex, joins, file, minus, tent, cube, fan, lone}
+use Rattle.worked.specs.Files.{header, vertex, joins, file, minus, tent, cube, fan, lone, fileP, fileC, mixed, turned}
 use Rattle.worked.specs.Lists.{coordsP, numbersP, coordsC, numbersC, coordsFan, still, noughts}
 use Rattle.worked.specs.Meshes.{meshP, meshP', meshC, meshC', cellC, listP, listP', listC}
+use Rattle.worked.specs.Questions.{listing, counting, sharing, listingKind, judging, least, checking, calling, boxing, packing, listed, counted, judged, formed, told, left, boxed, packedTo, Row, row, RowsHold}
+use Rattle.worked.specs.Asked.{asked}
 
--- ---- the files
-
--- two tetrahedra on one facet
-abbrev pub fileP : List ℕ
-fileP = tent (joins 0 1 2 4 ∷ joins 0 2 3 4 ∷ [])
-
--- the cube; with its last tetrahedron in part 1; with that tetrahedron's vertices in another order
-abbrev pub fileC : List ℕ
-fileC = cube (joins 0 5 2 7)
-
-abbrev pub mixed : List ℕ
-mixed = cube (u16 0 ++ u16 5 ++ u16 2 ++ u16 7 ++ u16 1)
-
-abbrev pub turned : List ℕ
-turned = cube (joins 0 2 5 7)
-
--- ---- their neighbour tables
+-- ---- the files' neighbour tables
 
 abbrev pub tableP : List ℕ
 tableP =
@@ -93,72 +64,6 @@ secondC = (6 ∷ 0 ∷ 1 ∷ 2 ∷ 4 ∷ 5 ∷ 7 ∷ unusedPlaces 2) ++ (3 ∷ 0
 
 abbrev pub lastC : List ℕ
 lastC = (5 ∷ 2 ∷ 5 ∷ 7 ∷ 3 ∷ 0 ∷ unusedPlaces 3) ++ (2 ∷ 1 ∷ 4 ∷ unusedPlaces 23)
-
--- ---- the questions, and the answers by the definitions
-
-pub data Question : Type 0 where
-  -- the full list of a mesh; how many cells of each of these kinds; the cells with exactly these tetrahedra
-  listing : Mesh → Question
-  counting : Mesh → (kinds : List ℕ) → Question
-  sharing : Mesh → (tets : List ℕ) → Question
-  -- the cells of one kind
-  listingKind : Mesh → Template → Question
-  -- a tuple's corner boxes, and the first condition that it fails
-  judging : Mesh → Template → (tuple : List ℕ) → Question
-  -- the least form of a tuple of this kind
-  least : (kind : ℕ) (tuple : List ℕ) → Question
-  -- the check of a file
-  checking : (file : List ℕ) → Question
-  -- a call on the file, from the mark on, with this table and this room
-  calling : (file mark table room : List ℕ) → Question
-  -- the box of four vertices of a file
-  boxing : (file : List ℕ) (a b c d : ℕ) → Question
-  -- these lists into this room
-  packing : (coordinates : List ℤ) (numbers parts room : List ℕ) → Question
-
-pub data Reply : Type 0 where
-  listed : List Cell → Reply
-  counted : List ℕ → Reply
-  judged : List ℤ → ℕ → Reply
-  -- a least form or a refusal, with the refusal's number
-  formed : ℕ → Least → Reply
-  told : Checked → Reply
-  -- the answer, and what the table and the room hold afterwards
-  left : Answer → (table room : List ℕ) → Reply
-  boxed : ℤ → Reply
-  -- the answer, and what the room holds afterwards
-  packedTo : Written → (room : List ℕ) → Reply
-
-unfoldable pub counts : List ℕ → List Cell → List ℕ
-counts ks ds = map (λ k. length (keep (λ d. eqb (d .kind) k) ds)) ks
-
-unfoldable pub withTets : List ℕ → List Cell → List Cell
-withTets es ds = keep (λ d. equal (d .tets) es) ds
-
-unfoldable pub ask : Question → Reply
-ask (listing m) = listed (fullList m)
-ask (counting m ks) = counted (counts ks (fullList m))
-ask (sharing m es) = listed (withTets es (fullList m))
-ask (listingKind m t) = listed (cellsOf m t)
-ask (judging m t c) = judged (map (λ ks. boxAt m (at c ks)) (t .triples)) (firstFailing m t c)
-ask (least k c) = formed (leastNumber (leastForm k c)) (leastForm k c)
-ask (checking f) = told (checked f)
-ask (calling f k table room) =
-    left
-    (portionBy (refusals f) (decoded f) (vertices f) k (length table) (length room) .answer)
-    (tableLeft (refusals f) (decoded f) (vertices f) table (length room))
-    (roomLeft (refusals f) (decoded f) (vertices f) k (length table) room)
-ask (boxing f a b c d) =
-    let p = point (decoded f) in
-    boxed (box (p a) (p b) (p c) (p d))
-ask (packing cs ls ps room) = let a = packed cs ls ps (length room) in packedTo a (roomAfter (fileOf cs ls ps) a room)
-
-pub record Row : Type 0 where
-  pub question : Question
-  pub reply : Reply
-
-abbrev pub row : Question → Reply → Row
-row q r = record { question = q; reply = r }
 
 -- ---- full lists
 
@@ -376,11 +281,7 @@ packings =
 -- ---- the table
 
 abbrev pub table : List Row
-table = lists ++ forms ++ calls ++ checks ++ packings
-
--- the definitions give the reply of each of these rows
-abbrev pub RowsHold : List Row → Type 0
-RowsHold rs = map (λ r. ask (r .question)) rs ≡ map (λ r. r .reply) rs
+table = lists ++ forms ++ calls ++ checks ++ packings ++ asked
 
 -- the claim
 abbrev pub Worked : Type 0
