@@ -137,8 +137,9 @@ pub fn first_open(labels: &[u16], c: &[u16], triangles: &[u8], quads: &[u8]) -> 
         (facesBy (threes (now (triangles .entry))) (fours (now (quads .entry)))) ⌝ }
 {
     let i = first_not_once(labels, c, quads, c, triangles);
+    let j = first_not_halved(labels, c, quads);
     if i < triangles.len() / 3 {
         return i;
     }
-    i + first_not_halved(labels, c, quads)
+    i + j
 }

@@ -26,8 +26,8 @@ use Rattle.exactly_once.proofs.Turned.{same}
 use Rattle.exactly_once.proofs.Once.{once}
 use Rattle.reasons.specs.declared.Finding.the-variants.{OpenFace}
 use Rattle.reasons.specs.First.{firstFail}
-use Rattle.reasons.specs.Reason.{faces, isClosed, others, offending, leastFrom, cellOf, turnedOf, tripleOf, leastTurn, foundCell, foundOpen, findingAt, finding, findingOf}
-use Rattle.reasons.specs.True.{isACell, Listed}
+use Rattle.reasons.specs.Reason.{faces, isClosed, others, offending, leastFrom, cellBy, turnedBy, tripleBy, leastTurn, foundCell, foundOpen, findingAt, finding, findingOf}
+use Rattle.reasons.specs.True.{isACell, InTheList}
 
 -- ---- a kind has one template
 
@@ -102,11 +102,11 @@ module _ (m : Mesh) {t : Template} (h : List·Memᴰ t templates) where
 -- ---- the finding
 
 module _ (m : Mesh) (t : Template) (c : List ℕ) where
-  as-cell : (b : Bool) (xs : List ℕ) → isACell (cond b (cellOf xs) (turnedOf xs)) ≡ true
+  as-cell : (b : Bool) (xs : List ℕ) → isACell (cond b (cellBy xs) (turnedBy xs)) ≡ true
   as-cell true xs = refl
   as-cell false xs = refl
 
-  as-open : (b : Bool) (xs : List ℕ) (i : ℕ) → isACell (cond b (tripleOf xs) (OpenFace i)) ≡ false
+  as-open : (b : Bool) (xs : List ℕ) (i : ℕ) → isACell (cond b (tripleBy xs) (OpenFace i)) ≡ false
   as-open true xs i = refl
   as-open false xs i = refl
 
@@ -126,13 +126,13 @@ module _ (m : Mesh) (t : Template) (c : List ℕ) where
   unfolding finding firstFailing isCell
   tells-cell = tells (isTuple m t c) (hasEdges m t c) (hasFaces m t c) (isSound m t c) (isFilled m t c) (isOnePart m t c)
 
-finding-listed : (m : Mesh) {t : Template} → List·Memᴰ t templates → (c : List ℕ) → length c ≡ t .corners → Listed m t c (finding m t c)
+finding-listed : (m : Mesh) {t : Template} → List·Memᴰ t templates → (c : List ℕ) → length c ≡ t .corners → InTheList m t c (finding m t c)
 finding-listed m {t} h c l = record {
   there = λ e. cell-listed m h c (sym (tells-cell m t c) ∙ e);
   back = λ ts g. tells-cell m t c ∙ listed-cell m h c l ts g;
 }
 
 -- of a kind and eight numbers
-pub found-is-listed : (m : Mesh) (k : ℕ) (vs : List ℕ) → templateOf k .corners ≤ length vs → Listed m (templateOf k) (tupleOf k vs) (findingOf m k vs)
+pub found-is-listed : (m : Mesh) (k : ℕ) (vs : List ℕ) → templateOf k .corners ≤ length vs → InTheList m (templateOf k) (tupleOf k vs) (findingOf m k vs)
 unfolding findingOf
 found-is-listed m k vs l = finding-listed m (is-template k) (tupleOf k vs) (length-take-le _ vs l)

@@ -19,7 +19,7 @@ use Rattle.least.specs.Least.{isLeast}
 use Rattle.cells.specs.Cells.{oneDiagonal, otherDiagonal, corner3, inside, once, paired, boxAt, isTuple, hasEdges, isFacet, hasFaces, isSound, sides, isFilled, isOnePart, firstFailing}
 use Rattle.reasons.specs.declared.Finding.the-variants.{OpenFace}
 use Rattle.reasons.specs.First.{firstFail}
-use Rattle.reasons.specs.Reason.{isNew, faces, isThere, isClosed, across, others, rising, offending, leastFrom, cellOf, turnedOf, tripleOf, leastTurn, foundCell, foundOpen, findingAt, finding, findingOf}
+use Rattle.reasons.specs.Reason.{isNew, faces, isThere, isClosed, across, others, rising, offending, leastFrom, cellBy, turnedBy, tripleBy, leastTurn, foundCell, foundOpen, findingAt, finding, findingOf}
 use Rattle.reasons.specs.True.{LeastOf, Holds, Offends, True}
 use Rattle.reasons.proofs.First.{first-fails}
 use Rattle.reasons.proofs.Corner.{tuple-new}
@@ -103,11 +103,11 @@ module _ (m : Mesh) (t : Template) (c : List ℕ) where
 
   -- ---- the findings
 
-  cell-true : (b : Bool) → isLeast t c ≡ b → Holds m t c 6 → True m t c (cond b (cellOf (leastTurn t c)) (turnedOf (leastTurn t c)))
+  cell-true : (b : Bool) → isLeast t c ≡ b → Holds m t c 6 → True m t c (cond b (cellBy (leastTurn t c)) (turnedBy (leastTurn t c)))
   cell-true true e h = (h, e, refl)
   cell-true false e h = (h, e, refl)
 
-  open-true : (b : Bool) → all (isClosed count3) (faces t) ≡ b → Holds m t c 4 → isFilled m t c ≡ false → True m t c (cond b (tripleOf (leastFrom [] (offending count3 c triples))) (OpenFace (firstFail (isClosed count3) (faces t))))
+  open-true : (b : Bool) → all (isClosed count3) (faces t) ≡ b → Holds m t c 4 → isFilled m t c ≡ false → True m t c (cond b (tripleBy (leastFrom [] (offending count3 c triples))) (OpenFace (firstFail (isClosed count3) (faces t))))
   open-true true e h f = (h, f, e, least-offends (sym (rw e at (filled-is m t c)) ∙ f))
   open-true false e h f = (h, f, first-fails (isClosed count3) (faces t) e)
 

@@ -74,27 +74,27 @@ rising (x ∷ xs) = insert x (rising xs)
 unfoldable pub offending : (List ℕ → ℕ) → List ℕ → List (List ℕ) → List (List ℕ)
 offending g c ks = map (λ ks. rising (at c ks)) (keep (λ ks. not (paired g ks)) ks)
 
--- the lesser of two, where nothing counts as the greatest; and the least of these and of x
-abbrev pub lesser : List ℕ → List ℕ → List ℕ
-lesser [] y = y
-lesser (x ∷ xs) y = cond (before y (x ∷ xs)) y (x ∷ xs)
+-- the lesserOf of two, where nothing counts as the greatest; and the least of these and of x
+abbrev pub lesserOf : List ℕ → List ℕ → List ℕ
+lesserOf [] y = y
+lesserOf (x ∷ xs) y = cond (before y (x ∷ xs)) y (x ∷ xs)
 
 abbrev pub leastFrom : List ℕ → List (List ℕ) → List ℕ
 leastFrom x [] = x
-leastFrom x (y ∷ ys) = leastFrom (lesser x y) ys
+leastFrom x (y ∷ ys) = leastFrom (lesserOf x y) ys
 
 -- ---- findings by a list of numbers
 
-abbrev pub cellOf : List ℕ → Finding
-cellOf xs =
+abbrev pub cellBy : List ℕ → Finding
+cellBy xs =
     Cell (getD xs 0 0) (getD xs 1 0) (getD xs 2 0) (getD xs 3 0) (getD xs 4 0) (getD xs 5 0) (getD xs 6 0) (getD xs 7 0)
 
-abbrev pub turnedOf : List ℕ → Finding
-turnedOf xs =
+abbrev pub turnedBy : List ℕ → Finding
+turnedBy xs =
     Turned (getD xs 0 0) (getD xs 1 0) (getD xs 2 0) (getD xs 3 0) (getD xs 4 0) (getD xs 5 0) (getD xs 6 0) (getD xs 7 0)
 
-abbrev pub tripleOf : List ℕ → Finding
-tripleOf xs = OpenTriple (getD xs 0 0) (getD xs 1 0) (getD xs 2 0)
+abbrev pub tripleBy : List ℕ → Finding
+tripleBy xs = OpenTriple (getD xs 0 0) (getD xs 1 0) (getD xs 2 0)
 
 -- ---- what is found
 
@@ -104,11 +104,11 @@ leastTurn t c = leastBy (t .turns) (t .less) c
 
 -- a cell, with its least form
 unfoldable pub foundCell : Template → List ℕ → Finding
-foundCell t c = cond (isLeast t c) (cellOf (leastTurn t c)) (turnedOf (leastTurn t c))
+foundCell t c = cond (isLeast t c) (cellBy (leastTurn t c)) (turnedBy (leastTurn t c))
 
 -- where condition 5 fails: the first face that offends, else the least of the other triples that do; fs are the faces
 unfoldable pub foundOpen : (List ℕ → ℕ) → List ℕ → List Face → List (List ℕ) → Finding
-foundOpen g c fs ks = cond (all (isClosed g) fs) (tripleOf (leastFrom [] (offending g c ks))) (OpenFace (firstFail (isClosed g) fs))
+foundOpen g c fs ks = cond (all (isClosed g) fs) (tripleBy (leastFrom [] (offending g c ks))) (OpenFace (firstFail (isClosed g) fs))
 
 module _ (m : Mesh) (t : Template) (c : List ℕ) where
   -- where k is the first condition that fails, or 0

@@ -18,7 +18,7 @@ use Rattle.cells.specs.Full.{cell, fullList}
 use Rattle.reasons.specs.declared.Finding.{Finding}
 use Rattle.reasons.specs.declared.Finding.the-variants.{Cell, Turned, BadCorner, NoEdge, NoFace, BadBox, OpenFace, OpenTriple, TwoParts, Refused}
 use Rattle.reasons.specs.First.{FirstFails}
-use Rattle.reasons.specs.Reason.{isNew, faces, isThere, isClosed, others, rising, cellOf, turnedOf, leastTurn}
+use Rattle.reasons.specs.Reason.{isNew, faces, isThere, isClosed, others, rising, cellBy, turnedBy, leastTurn}
 
 -- x is one of the lists, and none of them is before it
 pub record LeastOf (x : List ℕ) (In : List ℕ → Type 0) : Type 0 where
@@ -42,8 +42,8 @@ module _ (m : Mesh) (t : Template) (c : List ℕ) where
     pub rise : rises leb vs ≡ true
 
   abbrev pub True : Finding → Type 0
-  True (Cell a b d e f g h i) = Holds 6 × (isLeast t c ≡ true) × (Cell a b d e f g h i ≡ cellOf (leastTurn t c))
-  True (Turned a b d e f g h i) = Holds 6 × (isLeast t c ≡ false) × (Turned a b d e f g h i ≡ turnedOf (leastTurn t c))
+  True (Cell a b d e f g h i) = Holds 6 × (isLeast t c ≡ true) × (Cell a b d e f g h i ≡ cellBy (leastTurn t c))
+  True (Turned a b d e f g h i) = Holds 6 × (isLeast t c ≡ false) × (Turned a b d e f g h i ≡ turnedBy (leastTurn t c))
   True (BadCorner i) = (isTuple m t c ≡ false) × FirstFails (isNew (length (m .points)) c) (upTo (t .corners)) i
   True (NoEdge i) = Holds 1 × (hasEdges m t c ≡ false) × FirstFails (λ ks. together m (at c ks)) (t .edges) i
   True (NoFace i) = Holds 2 × (hasFaces m t c ≡ false) × FirstFails (isThere (isFacet m t c)) (faces t) i
@@ -69,6 +69,6 @@ isACell TwoParts = false
 isACell (Refused r) = false
 
 -- a cell is told of exactly where the least form stands in the full list, and there it has the tuple's tetrahedra
-pub record Listed (m : Mesh) (t : Template) (c : List ℕ) (w : Finding) : Type 0 where
+pub record InTheList (m : Mesh) (t : Template) (c : List ℕ) (w : Finding) : Type 0 where
   pub there : isACell w ≡ true → List·Memᴰ (cell (t .kind) (leastTurn t c) (numbersOf m t c)) (fullList m)
   pub back : (ts : List ℕ) → List·Memᴰ (cell (t .kind) (leastTurn t c) ts) (fullList m) → isACell w ≡ true

@@ -7,7 +7,6 @@ use mathlib.Core.List.{List, [], _∷_}
 use native.Mathlib.Omega.{arith}
 use borrow.Author.Tests.{eqb-true, ne-eqb, leb-true}
 use lib.Dec.{eqb}
-use lib.ListN.{length}
 use Rattle.base.specs.Lists.{all}
 use Rattle.base.specs.Refusals.{refuse, firstOf}
 use Rattle.base.proofs.Refusals.{passed, first-past, first-told, told, past, none-left}
@@ -20,7 +19,7 @@ use Rattle.cells.specs.Cells.{inside, isTuple, hasEdges, hasFaces, isSound, sid
 use Rattle.reasons.specs.declared.Finding.{Finding}
 use Rattle.reasons.specs.declared.Finding.the-variants.{OpenFace, Refused}
 use Rattle.reasons.specs.First.{firstFail}
-use Rattle.reasons.specs.Reason.{faces, isClosed, others, offending, leastFrom, cellOf, turnedOf, tripleOf, leastTurn, foundCell, foundOpen, findingAt, finding, findingOf}
+use Rattle.reasons.specs.Reason.{faces, isClosed, others, offending, leastFrom, cellBy, turnedBy, tripleBy, leastTurn, foundCell, foundOpen, findingAt, finding, findingOf}
 use Rattle.reasons.proofs.True.{found-is-true}
 use Rattle.reasons.proofs.Listed.{found-is-listed}
 use Rattle.why.specs.Why.{whyRefusals, foundUnless, explained, findingNumber}
@@ -59,11 +58,11 @@ module _ (f : List ℕ) (k : ℕ) (vs : List ℕ) where
 -- ---- what is told
 
 -- a finding of a mesh is no refusal
-as-cell : (b : Bool) (xs : List ℕ) → findingNumber (cond b (cellOf xs) (turnedOf xs)) ≡ 0
+as-cell : (b : Bool) (xs : List ℕ) → findingNumber (cond b (cellBy xs) (turnedBy xs)) ≡ 0
 as-cell true xs = refl
 as-cell false xs = refl
 
-as-open : (b : Bool) (xs : List ℕ) (i : ℕ) → findingNumber (cond b (tripleOf xs) (OpenFace i)) ≡ 0
+as-open : (b : Bool) (xs : List ℕ) (i : ℕ) → findingNumber (cond b (tripleBy xs) (OpenFace i)) ≡ 0
 as-open true xs i = refl
 as-open false xs i = refl
 

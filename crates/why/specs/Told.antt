@@ -9,7 +9,7 @@ use Rattle.base.specs.Refusals.{firstOf}
 use Rattle.layout.specs.Layout.{decoded}
 use Rattle.arrays.specs.Refusals.{refusal}
 use Rattle.templates.specs.Tables.{templateOf, tupleOf, isKind}
-use Rattle.reasons.specs.True.{True, Listed}
+use Rattle.reasons.specs.True.{True, InTheList}
 use Rattle.why.specs.Why.{whyRefusals, explained, findingNumber}
 
 pub record Told (f : List ℕ) (k : ℕ) (vs : List ℕ) : Type 0 where
@@ -19,4 +19,4 @@ pub record Told (f : List ℕ) (k : ℕ) (vs : List ℕ) : Type 0 where
   -- every earlier place passes
   pub tells : refusal f ≡ 0 → isKind k ≡ true → 8 ≤ length vs → True (decoded f) (templateOf k) (tupleOf k vs) (explained f k vs)
   -- and a cell is told of exactly where its least form stands in the full list
-  pub listed : refusal f ≡ 0 → isKind k ≡ true → 8 ≤ length vs → Listed (decoded f) (templateOf k) (tupleOf k vs) (explained f k vs)
+  pub listed : refusal f ≡ 0 → isKind k ≡ true → 8 ≤ length vs → InTheList (decoded f) (templateOf k) (tupleOf k vs) (explained f k vs)

@@ -1,107 +1,15 @@
-// Why a tuple is not a cell, or that it is one: of a mesh in arrays, and of a file.
+// Why a tuple of a file's mesh is not a cell, or that it is one.
 ghost use mathlib.Core.Path.{_≡_};
-ghost use mathlib.Core.Bool.{true};
-ghost use mathlib.Core.List.{List};
-ghost use Prim.Native.Nat.{ℕ, _*_, _/_, _≤_, _<_};
+ghost use Prim.Native.Nat.{_*_, _≤_, _<_};
 ghost use lib.ListN.{length};
-ghost use Rattle.base.specs.Lists.{distinct};
-ghost use Rattle.space.specs.Arrays.{meshOf};
-ghost use Rattle.space.specs.between.Working.{Close};
-ghost use Rattle.tets_around.specs.between.Index.{Indexed};
-ghost use Rattle.tets_around.specs.between.Arrays.{Arrays};
 ghost use Rattle.layout.specs.between.Framed.{Framed};
 ghost use Rattle.arrays.specs.between.Headed.{headed};
 ghost use Rattle.arrays.specs.declared.Checked.the-variants.{Accepted};
-ghost use Rattle.templates.specs.Tables.{templateOf, tupleOf, isKind};
-ghost use Rattle.reasons.specs.Reason.{foundCell, findingAt, findingOf};
+ghost use Rattle.templates.specs.Tables.{isKind};
 ghost use Rattle.why.specs.Why.{explained, findingNumber, entriesLeft};
 use arrays::Checked;
-use failing::first_box;
-use failing::first_corner;
-use failing::first_edge;
-use failing::first_face;
-use least::is_least;
-use open_triples::open_at;
+use findings::finding;
 use reasons::Finding;
-use turning::Least;
-use turning::least_form;
-use verdict::judge;
-
-// ---- of a mesh in arrays
-
-// A cell, with its least form.
-fn found_cell(kind: u16, tuple: &[u16; 8]) -> Finding
-    requires { ⌜ (isKind kind ≡ true) × (distinct (tupleOf kind (now tuple)) ≡ true) ⌝ }
-    ensures { λ r. ⌜ r ≡ foundCell (templateOf kind) (tupleOf kind (now (tuple .entry))) ⌝ }
-{
-    let least = is_least(kind, tuple);
-    let form = least_form(kind, *tuple);
-    match form {
-        Least::Form(a, b, c, d, e, f, g, h) => {
-            if least {
-                Finding::Cell(a, b, c, d, e, f, g, h)
-            } else {
-                Finding::Turned(a, b, c, d, e, f, g, h)
-            }
-        }
-        Least::Refused => Finding::Refused(13),
-    }
-}
-
-// Where condition k is the first that fails.
-fn found_at(
-    coords: &[i64],
-    labels: &[u16],
-    offsets: &[u16],
-    entries: &[u16],
-    kind: u16,
-    tuple: &[u16],
-    k: u8,
-) -> Finding
-    requires { ⌜ Close (now coords) × Indexed (now labels) (length (now coords) / 3) (now offsets) (now entries) ⌝ }
-    requires { ⌜ (8 ≤ length (now tuple)) × (1 ≤ k) ⌝ }
-    ensures { λ r. ⌜ ((ps : List ℕ) → r ≡ findingAt (meshOf (now (coords .entry)) (now (labels .entry)) ps)
-        (templateOf kind) (tupleOf kind (now (tuple .entry))) k) ⌝ }
-{
-    let n = coords.len() / 3;
-    if k == 1 {
-        return Finding::BadCorner(first_corner(n, kind, tuple));
-    }
-    if k == 2 {
-        return Finding::NoEdge(first_edge(labels, n, offsets, entries, kind, tuple));
-    }
-    if k == 3 {
-        return Finding::NoFace(first_face(labels, n, offsets, entries, kind, tuple));
-    }
-    if k == 4 {
-        return Finding::BadBox(first_box(coords, kind, tuple));
-    }
-    if k == 5 {
-        return open_at(labels, kind, tuple);
-    }
-    Finding::TwoParts
-}
-
-// What is found of a tuple of a kind. Numbers past the kind's corners do not count.
-pub fn finding(
-    coords: &[i64],
-    labels: &[u16],
-    parts: &[u16],
-    offsets: &[u16],
-    entries: &[u16],
-    kind: u16,
-    tuple: &[u16; 8],
-) -> Finding
-    requires { ⌜ Arrays (now coords) (now labels) (now parts) (length (now coords) / 3) (now offsets) (now entries) ⌝ }
-    requires { ⌜ isKind kind ≡ true ⌝ }
-    ensures { λ r. ⌜ r ≡ findingOf (meshOf (now (coords .entry)) (now (labels .entry)) (now (parts .entry))) kind (now (tuple .entry)) ⌝ }
-{
-    let k = judge(coords, labels, parts, offsets, entries, kind, tuple);
-    if k == 0 {
-        return found_cell(kind, tuple);
-    }
-    found_at(coords, labels, offsets, entries, kind, tuple, k)
-}
 
 // ---- of a file
 
@@ -135,11 +43,12 @@ fn explain_in(
     requires { ⌜ (n < length (now offsets)) × (4 * t ≤ length (now entries)) ⌝ }
     ensures { λ r. ⌜ r ≡ explained (now (file .entry)) kind (now (tuple .entry)) ⌝ }
 {
+    let known = is_kind(kind);
     let number = arrays::load(file, n, t, coords, labels, parts, offsets, entries);
     if number != 0 {
         return Finding::Refused(number);
     }
-    if !is_kind(kind) {
+    if !known {
         return Finding::Refused(16);
     }
     finding(coords, labels, parts, offsets, entries, kind, tuple)

@@ -1,6 +1,6 @@
 -- `open_faces::all_once` meets its contract. Assumes nothing.
 use Prim.Native.Nat.{_/_}
-use mathlib.Core.Path.{sym, _∙_, ap, ap₂}
+use mathlib.Core.Path.{sym, _∙_, ap₂}
 use lib.Dec.{eqb}
 use lib.ListN.{length}
 use Rattle.base.proofs.Loop.{length-up}

@@ -18,8 +18,8 @@ first-not-once-requires c κs = search needs
 
 returns : tie.Need-returns
 unfolding isClosed
-returns c = let a = c .before .before .before .before .before .before .args in
-    face-left (isClosed (sidesIn (a .labels .now) (a .quads .now) (a .c .now) (a .c .now))) (threes (a .triangles .now)) (fours (a .quads .now)) (c .before .first-not-once .ensures) (omega (arith, length-up (row3 (a .triangles .now)) (length (a .triangles .now) / 3)))
+returns c = let a = c .before .before .before .before .before .before .before .args in
+    face-left (isClosed (sidesIn (a .labels .now) (a .quads .now) (a .c .now) (a .c .now))) (threes (a .triangles .now)) (fours (a .quads .now)) (c .before .before .first-not-once .ensures) (omega (arith, length-up (row3 (a .triangles .now)) (length (a .triangles .now) / 3)))
 
 first-not-halved-requires : tie.Need-first-not-halved-requires
 first-not-halved-requires c κs = search needs
@@ -30,15 +30,14 @@ add-result c = let a = c .before .before .before .before .before .before .before
     omega (
       arith,
       fail-few (once g) (row3 (a .triangles .now)) (length (a .triangles .now) / 3) (c .before .before .first-not-once .ensures),
-      fail-few (halves g) (row4 (a .quads .now)) (length (a .quads .now) / 4) (c .first-not-halved .ensures),
+      fail-few (halves g) (row4 (a .quads .now)) (length (a .quads .now) / 4) (c .before .first-not-halved .ensures),
     )
 
 returns-2 : tie.Need-returns-2
 unfolding isClosed
 returns-2 c = let a = c .before .before .before .before .before .before .before .args in
-    face-right (isClosed (sidesIn (a .labels .now) (a .quads .now) (a .c .now) (a .c .now))) (threes (a .triangles .now)) (fours (a .quads .now)) (c .before .before .first-not-once .ensures) (omega (arith, length-up (row3 (a .triangles .now)) (length (a .triangles .now) / 3))) (c .first-not-halved .ensures)
+    face-right (isClosed (sidesIn (a .labels .now) (a .quads .now) (a .c .now) (a .c .now))) (threes (a .triangles .now)) (fours (a .quads .now)) (c .before .before .first-not-once .ensures) (omega (arith, length-up (row3 (a .triangles .now)) (length (a .triangles .now) / 3))) (c .before .first-not-halved .ensures)
 
 pub first-open-spec : {M : Type 1} → statement M
 first-open-spec =
-    tie.close
-    (tie.spec first-not-once-requires returns first-not-halved-requires add-result returns-2)
+    tie.close (tie.spec first-not-once-requires first-not-halved-requires returns add-result returns-2)

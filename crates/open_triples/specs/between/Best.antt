@@ -8,16 +8,16 @@ use Rattle.templates.specs.Tables.{at}
 use Rattle.cells.specs.Cells.{paired, sidesOf}
 use Rattle.cells.specs.between.Rows.{ownNumbers}
 use Rattle.reasons.specs.declared.Finding.{Finding}
-use Rattle.reasons.specs.Reason.{facesBy, others, rising, lesser, foundOpen}
+use Rattle.reasons.specs.Reason.{facesBy, others, rising, lesserOf, foundOpen}
 use Rattle.open_triples.specs.declared.Best.{Best}
 
 -- the vertices of the best so far, where there is one
 abbrev pub held : Best → List ℕ
 held x = cond (x .some) (x .u ∷ x .v ∷ x .w ∷ []) []
 
--- the lesser of what is held and of one triple of places of x, where it offends
+-- the lesserOf of what is held and of one triple of places of x, where it offends
 unfoldable pub offered : (List ℕ → ℕ) → List ℕ → List ℕ → List ℕ → List ℕ
-offered g x b ks = cond (paired g ks) b (lesser b (rising (at x ks)))
+offered g x b ks = cond (paired g ks) b (lesserOf b (rising (at x ks)))
 
 -- g put to use at each element in turn
 abbrev pub steps : {A : Type 0} → (List ℕ → A → List ℕ) → List ℕ → List A → List ℕ

@@ -2,11 +2,14 @@
 use mathlib.Core.Path.{sym, _∙_}
 use native.Mathlib.Omega.{arith}
 use borrow.Author.Tests.{not-true, not-false}
-use Rattle.why.proofs.Found.{as-counted}
+use Rattle.why.proofs.Entries.{as-counted}
 use Rattle.why.proofs.File.{file-refused, kind-refused, found-file}
 use borrow.Author.Needs.{needs}
 use Rattle.why.proofs.explain_in.Statement.{statement}
 use Rattle.why.proofs.explain_in.Tie as tie
+
+is-kind-requires : tie.Need-is-kind-requires
+is-kind-requires c κs = search needs
 
 load-requires : tie.Need-load-requires
 load-requires c κs = search needs
@@ -27,11 +30,8 @@ same-length-5 : tie.Need-same-length-5
 same-length-5 c = search needs
 
 returns : tie.Need-returns
-returns c = let a = c .before .before .before .before .before .before .before .before .before .before .before .before .before .before .before .before .before .before .before .before .before .args in
+returns c = let a = c .before .before .before .before .before .before .before .before .before .before .before .before .before .before .before .before .before .before .before .before .before .before .args in
     file-refused (a .file .now) (a .kind) (a .tuple .now) (sym (c .before .before .before .before .before .before .before .before .before .before .load .ensures .told)) (omega arith)
-
-is-kind-requires : tie.Need-is-kind-requires
-is-kind-requires c κs = search needs
 
 same-length-6 : tie.Need-same-length-6
 same-length-6 c = search needs
@@ -50,10 +50,10 @@ same-length-10 c = search needs
 
 returns-2 : tie.Need-returns-2
 returns-2 c = let a = c .before .before .before .before .before .before .before .before .before .before .before .before .before .before .before .before .before .before .before .before .before .before .before .args in
-    kind-refused (a .file .now) (a .kind) (a .tuple .now) (sym (c .before .before .before .before .before .before .before .before .before .before .before .before .load .ensures .told) ∙ c .before .before .if1 .left) (sym (c .before .is-kind .ensures) ∙ not-true _ (c .if2 .taken))
+    kind-refused (a .file .now) (a .kind) (a .tuple .now) (sym (c .before .before .before .before .before .before .before .before .before .before .before .load .ensures .told) ∙ c .before .if1 .left) (sym (c .before .before .before .before .before .before .before .before .before .before .before .before .before .before .before .before .before .is-kind .ensures) ∙ not-true _ (c .if2 .taken))
 
 finding-requires : tie.Need-finding-requires
-finding-requires c κs = (as-counted (c .before .before .before .before .before .before .before .before .before .before .before .before .before .before .before .before .before .load .ensures .arrays (c .before .before .before .before .before .before .before .if1 .left)), sym (c .before .before .before .before .before .before .is-kind .ensures) ∙ not-false _ (c .before .before .before .before .before .if2 .left))
+finding-requires c κs = (as-counted (c .before .before .before .before .before .before .before .before .before .before .before .before .before .before .before .before .load .ensures .arrays (c .before .before .before .before .before .before .if1 .left)), sym (c .before .before .before .before .before .before .before .before .before .before .before .before .before .before .before .before .before .before .before .before .before .before .is-kind .ensures) ∙ not-false _ (c .before .before .before .before .before .if2 .left))
 
 same-length-11 : tie.Need-same-length-11
 same-length-11 c = search needs
@@ -72,13 +72,14 @@ same-length-15 c = search needs
 
 returns-3 : tie.Need-returns-3
 returns-3 c = let a = c .before .before .before .before .before .before .before .before .before .before .before .before .before .before .before .before .before .before .before .before .before .before .before .before .before .before .before .before .before .args in
-    let l = c .before .before .before .before .before .before .before .before .before .before .before .before .before .before .before .before .before .before .load .ensures in
-    found-file (a .file .now) (a .kind) (a .tuple .now) (sym (l .told) ∙ c .before .before .before .before .before .before .before .before .if1 .left) (sym (c .before .before .before .before .before .before .before .is-kind .ensures) ∙ not-false _ (c .before .before .before .before .before .before .if2 .left)) (l .is) (c .finding .ensures)
+    let l = c .before .before .before .before .before .before .before .before .before .before .before .before .before .before .before .before .before .load .ensures in
+    found-file (a .file .now) (a .kind) (a .tuple .now) (sym (l .told) ∙ c .before .before .before .before .before .before .before .if1 .left) (sym (c .before .before .before .before .before .before .before .before .before .before .before .before .before .before .before .before .before .before .before .before .before .before .before .is-kind .ensures) ∙ not-false _ (c .before .before .before .before .before .before .if2 .left)) (l .is) (c .finding .ensures)
 
 pub explain-in-spec : {M : Type 1} → statement M
 explain-in-spec =
     tie.close
     (tie.spec
+    is-kind-requires
     load-requires
     same-length
     same-length-2
@@ -86,7 +87,6 @@ explain-in-spec =
     same-length-4
     same-length-5
     returns
-    is-kind-requires
     same-length-6
     same-length-7
     same-length-8

@@ -1,6 +1,6 @@
 -- `why::hand_out` meets its contract. Assumes nothing.
 use mathlib.Core.Path.{sym}
-use Rattle.why.proofs.Found.{handed}
+use Rattle.why.proofs.Entries.{handed}
 use borrow.Author.Needs.{needs}
 use Rattle.why.proofs.hand_out.Statement.{statement}
 use Rattle.why.proofs.hand_out.Tie as tie

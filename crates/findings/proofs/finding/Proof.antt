@@ -1,12 +1,12 @@
--- `why::finding` meets its contract. Assumes nothing.
+-- `findings::finding` meets its contract. Assumes nothing.
 use mathlib.Core.Path.{sym, _∙_}
 use Rattle.space.specs.Arrays.{meshOf}
 use Rattle.templates.specs.Tables.{templateOf, tupleOf}
-use Rattle.reasons.specs.Reason.{foundCell, findingAt, finding, findingOf}
-use Rattle.why.proofs.Found.{sound-distinct}
+use Rattle.reasons.specs.Reason.{findingAt, finding, findingOf}
+use Rattle.findings.proofs.Found.{sound-distinct}
 use borrow.Author.Needs.{needs}
-use Rattle.why.proofs.finding.Statement.{statement}
-use Rattle.why.proofs.finding.Tie as tie
+use Rattle.findings.proofs.finding.Statement.{statement}
+use Rattle.findings.proofs.finding.Tie as tie
 
 judge-requires : tie.Need-judge-requires
 judge-requires c κs = search needs

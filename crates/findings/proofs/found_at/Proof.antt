@@ -1,10 +1,9 @@
--- `why::found_at` meets its contract. Assumes nothing.
+-- `findings::found_at` meets its contract. Assumes nothing.
 use Rattle.templates.specs.Tables.{templateOf, tupleOf}
-use Rattle.why.proofs.Found.{corner-found, edge-found, face-found, box-found, open-found, parts-found}
-use native.Mathlib.Omega.{arith}
+use Rattle.findings.proofs.Found.{corner-found, edge-found, face-found, box-found, open-found, parts-found}
 use borrow.Author.Needs.{needs}
-use Rattle.why.proofs.found_at.Statement.{statement}
-use Rattle.why.proofs.found_at.Tie as tie
+use Rattle.findings.proofs.found_at.Statement.{statement}
+use Rattle.findings.proofs.found_at.Tie as tie
 
 first-corner-requires : tie.Need-first-corner-requires
 first-corner-requires c κs = search needs

@@ -15,23 +15,20 @@ use Rattle.base.proofs.Loop.{length-up}
 use Rattle.space.specs.Box.{isAbove0}
 use Rattle.space.specs.Mesh.{Mesh}
 use Rattle.space.specs.Arrays.{pointAt, meshOf}
-use Rattle.tets_around.specs.between.Arrays.{Arrays}
 use Rattle.tets_around.specs.Sharing.{togetherIn}
 use Rattle.tets_around.proofs.Around.{together-in}
 use Rattle.templates.specs.Tables.{Template, templateOf, tupleOf, isKind, at}
 use Rattle.least.specs.Least.{isLeast}
-use Rattle.turning.specs.declared.Least.{Least}
-use Rattle.turning.specs.declared.Least.the-variants.{Form, Refused as Unformed}
 use Rattle.turning.specs.Form.{formBy, leastForm}
 use Rattle.cells.specs.Cells.{inside, boxOf, boxAt, isTuple, isFacet, firstFailing}
 use Rattle.cells.specs.between.Rows.{pointsOf, facetIn}
 use Rattle.cells.proofs.InArrays.{sides-in}
 use Rattle.reasons.specs.declared.Finding.{Finding}
-use Rattle.reasons.specs.declared.Finding.the-variants.{Cell, Turned, BadCorner, NoEdge, NoFace, BadBox, OpenFace, OpenTriple, TwoParts, Refused}
+use Rattle.reasons.specs.declared.Finding.the-variants.{BadCorner, NoEdge, NoFace, BadBox, TwoParts}
 use Rattle.reasons.specs.First.{firstFail}
-use Rattle.reasons.specs.Reason.{isNew, faces, isThere, others, leastTurn, foundCell, foundOpen, findingAt}
+use Rattle.reasons.specs.Reason.{isNew, faces, isThere, others, cellBy, turnedBy, leastTurn, foundCell, foundOpen, findingAt}
 use Rattle.open_triples.specs.between.Best.{openBy}
-use Rattle.why.specs.Why.{findingNumber, entriesLeft}
+use Rattle.findings.specs.between.Numbers.{formNumbers}
 
 -- ---- conditions 1 to 6
 
@@ -71,33 +68,7 @@ pub sound-distinct : (m : Mesh) (t : Template) (c : List ℕ) → firstFailing m
 unfolding firstFailing isTuple
 sound-distinct m t c e = both-right (eqb (length c) (t .corners) && all (λ v. ltb v (length (m .points))) c) _ (none-first (isTuple m t c) _ e)
 
--- a cell with this least form, in it or turned
-abbrev pub toldOf : Least → Bool → Finding
-toldOf (Form a b c d e f g h) l = cond l (Cell a b c d e f g h) (Turned a b c d e f g h)
-toldOf Unformed l = Refused 13
-
-pub told-cell : (k : ℕ) (vs : List ℕ) → isKind k ≡ true → distinct (tupleOf k vs) ≡ true → toldOf (leastForm k vs) (isLeast (templateOf k) (tupleOf k vs)) ≡ foundCell (templateOf k) (tupleOf k vs)
+-- a cell, by its least form's numbers
+pub told-cell : (k : ℕ) (vs : List ℕ) → isKind k ≡ true → distinct (tupleOf k vs) ≡ true → let x = formNumbers (leastForm k vs) in cond (isLeast (templateOf k) (tupleOf k vs)) (cellBy x) (turnedBy x) ≡ foundCell (templateOf k) (tupleOf k vs)
 unfolding leastForm formBy foundCell leastTurn
 told-cell k vs e d = rw (e, d)
-
--- ---- by numbers
-
-pub handed : {v w : Finding} (old : List ℕ) → v ≡ w → (findingNumber v ≡ findingNumber w) × (entriesLeft v old ≡ entriesLeft w old)
-handed old e = (ap findingNumber e, ap (λ w. entriesLeft w old) e)
-
-pub entries-long : (w : Finding) (old : List ℕ) → length old ≡ 10 → length (entriesLeft w old) ≡ 10
-entries-long (Cell a b c d e f g h) old l = refl
-entries-long (Turned a b c d e f g h) old l = refl
-entries-long (BadCorner i) old l = refl
-entries-long (NoEdge i) old l = refl
-entries-long (NoFace i) old l = refl
-entries-long (BadBox i) old l = refl
-entries-long (OpenFace i) old l = refl
-entries-long (OpenTriple u v w) old l = refl
-entries-long TwoParts old l = refl
-entries-long (Refused r) old l = l
-
--- ---- the arrays, by the number of vertices that they hold
-
-pub as-counted : {zs : List ℤ} {ls ps os es : List ℕ} {n : ℕ} → Arrays zs ls ps n os es → Arrays zs ls ps (length zs / 3) os es
-as-counted a = rw (a .counted) a
