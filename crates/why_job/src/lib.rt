@@ -1,12 +1,12 @@
 // The job `why`: what is found of a tuple in a mesh file, printed on standard output as lines of numbers, which
-// ./combine turns into words. The first line is `why` with the ten entries of the answer, the promise of `why::explain`.
-// Then comes what a reader would look up, as the answer asks for it:
-//   vertices N         how many vertices the mesh has (condition 1)
-//   at P Q ..          the places of the edge's, the face's or the corner triple's corners (2 to 5)
-//   side P Q R K       the triangle at these places is a facet of K tetrahedra: of the mesh (3), of the cell's (5)
-//   three K            the triple that is told is a facet of K of the cell's tetrahedra (5)
-//   box N              the box at that corner is -N (4)
-//   tet I P            tetrahedron I is one of the cell's, of part P (of a cell, and 6)
+// ./combine turns into words:
+//   why ..             the ten entries of the answer, the promise of `why::explain`
+//   seen N W ..        how many vertices the mesh has; how many corners the edge, the face or the corner triple has that
+//                      is told, and their places, four; of how many tetrahedra its triangles are facets, four: of the
+//                      mesh's (condition 3) or of the cell's (5), those of its one diagonal and then of its other;
+//                      of another triple that is told (5), the first of these four
+//   box K              the box at the corner that is told is -K (4)
+//   tets .. parts ..   the cell's tetrahedra, the first 25, and their parts (of a cell, and 6)
 //
 // Where the file or the kind is refused, nothing is written there, and `refused` with the number on standard error says
 // so; `lost`, where a line could not be written.
@@ -43,9 +43,59 @@ struct Asked {
     found: Finding,
 }
 
-// ---- places
+// ---- where the row that is told stands
 
-// The corner that stands at place j of the tables of all kinds, 0 past their end.
+// Where it begins in the tables of all kinds, and how many corners it has.
+struct Spot {
+    at: usize,
+    width: usize,
+}
+
+fn face_spot(triangles: usize, quads: usize, i: usize) -> Spot
+    requires { ⌜ (triangles ≤ quads) × (quads ≤ 308) × (i < 64) ⌝ }
+    ensures { λ r. ⌜ r .at ≤ 1000 ⌝ }
+{
+    let k = (quads - triangles) / 3;
+    if i < k {
+        return Spot {
+            at: triangles + 3 * i,
+            width: 3,
+        };
+    }
+    Spot {
+        at: quads + 4 * (i - k),
+        width: 4,
+    }
+}
+
+fn spot_of(kind: u16, found: Finding) -> Spot
+    ensures { λ r. ⌜ r .at ≤ 1000 ⌝ }
+{
+    let Bounds {
+        corners: _,
+        edges,
+        triangles,
+        quads,
+        triples,
+        within: _,
+        end: _,
+    } = bounds_of(kind);
+    match found {
+        Finding::NoEdge(i) => Spot {
+            at: edges + 2 * ((i % 64) as usize),
+            width: 2,
+        },
+        Finding::NoFace(i) => face_spot(triangles, quads, (i % 64) as usize),
+        Finding::OpenFace(i) => face_spot(triangles, quads, (i % 64) as usize),
+        Finding::BadBox(i) => Spot {
+            at: triples + 4 * ((i % 64) as usize),
+            width: 4,
+        },
+        _ => Spot { at: 0, width: 0 },
+    }
+}
+
+// The corner that stands at place j of the tables, 0 past their end.
 fn place(j: usize) -> u8 {
     let all = all_rows();
     if j < all.len() {
@@ -54,20 +104,13 @@ fn place(j: usize) -> u8 {
     0
 }
 
-// Writes the first k corners of a row of those tables, which begins at j.
-fn show_row(out: &mut [u8], j: usize, k: usize) -> bool
-    requires { ⌜ (length (now out) ≡ 65536) × (j ≤ 65536) × (k ≤ 4) ⌝ }
+fn places(j: usize) -> [u8; 4]
+    requires { ⌜ j ≤ 1000 ⌝ }
 {
-    let row = [
-        place(j) as u16,
-        place(j + 1) as u16,
-        place(j + 2) as u16,
-        place(j + 3) as u16,
-    ];
-    show_numbers(out, b"at", &row[..k])
+    [place(j), place(j + 1), place(j + 2), place(j + 3)]
 }
 
-// ---- how many tetrahedra have three vertices
+// ---- of how many tetrahedra three vertices are a facet
 
 // 1 where the tetrahedron has them, else 0.
 fn has(labels: &[u16], e: Tet, u: Vertex, v: Vertex, w: Vertex) -> usize
@@ -109,18 +152,9 @@ fn own_at(labels: &[u16], kind: u16, tuple: &[u16], u: Vertex, v: Vertex, w: Ver
     sides_at(labels, &tuple[..corners], &all[quads..triples], u, v, w)
 }
 
-// ---- faces
-
-// Writes of how many tetrahedra the triangle at three places of a tuple is a facet.
-fn show_side(
-    out: &mut [u8],
-    labels: &[u16],
-    kind: u16,
-    tuple: &[u16],
-    at: [u8; 3],
-    own: bool,
-) -> bool
-    requires { ⌜ (length (now out) ≡ 65536) × (length (now labels) / 4 ≤ 2048) × (8 ≤ length (now tuple)) ⌝ }
+// The triangle at three corners of a tuple: of the cell's or of all.
+fn count_at(labels: &[u16], kind: u16, tuple: &[u16], at: [u8; 3], own: bool) -> u16
+    requires { ⌜ (length (now labels) / 4 ≤ 2048) × (8 ≤ length (now tuple)) ⌝ }
 {
     let u = Vertex(corner(tuple, at[0]));
     let v = Vertex(corner(tuple, at[1]));
@@ -130,154 +164,118 @@ fn show_side(
     } else {
         sharers_at(labels, u, v, w)
     };
-    let line = [at[0] as u16, at[1] as u16, at[2] as u16, (k % 65536) as u16];
-    show_numbers(out, b"side", &line)
+    (k % 65536) as u16
 }
 
-// Writes the triangles of the quadrilateral whose row begins at j: of its one diagonal, and of its other.
-fn show_quad(out: &mut [u8], labels: &[u16], kind: u16, tuple: &[u16], j: usize, own: bool) -> bool
-    requires { ⌜ (length (now out) ≡ 65536) × (length (now labels) / 4 ≤ 2048) × (8 ≤ length (now tuple)) × (j ≤ 65536) ⌝ }
+// The triangles of a face: itself, or those of a quadrilateral's one diagonal and then of its other.
+fn counts(labels: &[u16], kind: u16, tuple: &[u16], p: [u8; 4], width: usize, own: bool) -> [u16; 4]
+    requires { ⌜ (length (now labels) / 4 ≤ 2048) × (8 ≤ length (now tuple)) ⌝ }
 {
-    let q = [place(j), place(j + 1), place(j + 2), place(j + 3)];
-    if !show_side(out, labels, kind, tuple, [q[0], q[1], q[2]], own) {
-        return false;
+    let first = count_at(labels, kind, tuple, [p[0], p[1], p[2]], own);
+    if width < 4 {
+        return [first, 0, 0, 0];
     }
-    if !show_side(out, labels, kind, tuple, [q[0], q[2], q[3]], own) {
-        return false;
-    }
-    if !show_side(out, labels, kind, tuple, [q[0], q[1], q[3]], own) {
-        return false;
-    }
-    show_side(out, labels, kind, tuple, [q[1], q[2], q[3]], own)
+    [
+        first,
+        count_at(labels, kind, tuple, [p[0], p[2], p[3]], own),
+        count_at(labels, kind, tuple, [p[0], p[1], p[3]], own),
+        count_at(labels, kind, tuple, [p[1], p[2], p[3]], own),
+    ]
 }
 
-// Writes face i, triangles before quadrilaterals, and its triangles.
-fn show_face(out: &mut [u8], labels: &[u16], kind: u16, tuple: &[u16], i: u16, own: bool) -> bool
-    requires { ⌜ (length (now out) ≡ 65536) × (length (now labels) / 4 ≤ 2048) × (8 ≤ length (now tuple)) ⌝ }
+fn counts_of(labels: &[u16], kind: u16, tuple: &[u16; 8], found: Finding) -> [u16; 4]
+    requires { ⌜ length (now labels) / 4 ≤ 2048 ⌝ }
 {
-    let Bounds {
-        corners: _,
-        edges: _,
-        triangles,
-        quads,
-        triples: _,
-        within: _,
-        end: _,
-    } = bounds_of(kind);
-    let k = (quads - triangles) / 3;
-    let row = (i % 64) as usize;
-    if row < k {
-        let j = triangles + 3 * row;
-        if !show_row(out, j, 3) {
-            return false;
-        }
-        return show_side(
-            out,
-            labels,
-            kind,
-            tuple,
-            [place(j), place(j + 1), place(j + 2)],
-            own,
-        );
-    }
-    let j = quads + 4 * (row - k);
-    if !show_row(out, j, 4) {
-        return false;
-    }
-    show_quad(out, labels, kind, tuple, j, own)
-}
-
-// ---- a corner's box
-
-// The point of the corner that stands at place j of the tables.
-fn point_in(file: &[u8], n: usize, t: usize, tuple: &[u16], j: usize) -> Point {
-    let found = view::point_of(file, n, t, Vertex(corner(tuple, place(j))));
+    let Spot { at, width } = spot_of(kind, found);
     match found {
-        Located::At(p) => p,
-        Located::Nowhere => Point { x: 0, y: 0, z: 0 },
-    }
-}
-
-fn box_at(file: &[u8], n: usize, t: usize, tuple: &[u16], j: usize) -> Boxed
-    requires { ⌜ j ≤ 65536 ⌝ }
-{
-    let p = point_in(file, n, t, tuple, j);
-    let q = point_in(file, n, t, tuple, j + 1);
-    let r = point_in(file, n, t, tuple, j + 2);
-    let s = point_in(file, n, t, tuple, j + 3);
-    space::box_product(p, q, r, s)
-}
-
-// Writes corner triple i and how far its box, which is not above 0, is below it.
-fn show_box(
-    out: &mut [u8],
-    file: &[u8],
-    n: usize,
-    t: usize,
-    kind: u16,
-    tuple: &[u16],
-    i: u16,
-) -> bool
-    requires { ⌜ length (now out) ≡ 65536 ⌝ }
-{
-    let Bounds {
-        corners: _,
-        edges: _,
-        triangles: _,
-        quads: _,
-        triples,
-        within: _,
-        end: _,
-    } = bounds_of(kind);
-    let j = triples + 4 * ((i % 64) as usize);
-    if !show_row(out, j, 4) {
-        return false;
-    }
-    let answer = box_at(file, n, t, tuple, j);
-    match answer {
-        Boxed::Value(b) => show_number(STDOUT_FILENO, out, b"box", size_of(b)),
-        Boxed::Refused => false,
+        Finding::NoFace(_) => counts(labels, kind, tuple, places(at), width, false),
+        Finding::OpenFace(_) => counts(labels, kind, tuple, places(at), width, true),
+        Finding::OpenTriple(u, v, w) => {
+            let k = own_at(labels, kind, tuple, Vertex(u), Vertex(v), Vertex(w));
+            [(k % 65536) as u16, 0, 0, 0]
+        }
+        _ => [0; 4],
     }
 }
 
 // ---- the cell's tetrahedra
 
-// Writes tetrahedron i and its part, where it is one of the cell's.
-fn show_tet(
-    out: &mut [u8],
-    labels: &[u16],
-    parts: &[u16],
-    c: &[u16],
-    quads: &[u8],
-    i: usize,
-) -> bool
-    requires { ⌜ (length (now out) ≡ 65536) × (length (now labels) / 4 ≤ 2048) × (i < length (now parts)) ⌝ }
+// How many of the first 25 there are; they, and their parts.
+struct Own {
+    count: usize,
+    tets: [u16; 25],
+    parts: [u16; 25],
+}
+
+fn none() -> Own
+    ensures { λ r. ⌜ r .count ≤ 25 ⌝ }
+{
+    Own {
+        count: 0,
+        tets: [0; 25],
+        parts: [0; 25],
+    }
+}
+
+fn push(own: Own, e: u16, part: u16) -> Own
+    requires { ⌜ own .count ≤ 25 ⌝ }
+    ensures { λ r. ⌜ r .count ≤ 25 ⌝ }
+{
+    let Own {
+        count,
+        mut tets,
+        mut parts,
+    } = own;
+    if count == 25 {
+        return own;
+    }
+    tets[count] = e;
+    parts[count] = part;
+    Own {
+        count: count + 1,
+        tets,
+        parts,
+    }
+}
+
+// With tetrahedron i, where it is one of the cell's.
+fn with_tet(own: Own, labels: &[u16], parts: &[u16], c: &[u16], quads: &[u8], i: usize) -> Own
+    requires { ⌜ (own .count ≤ 25) × (length (now labels) / 4 ≤ 2048) × (i < length (now parts)) ⌝ }
+    ensures { λ r. ⌜ r .count ≤ 25 ⌝ }
 {
     if labels.len() / 4 <= i {
-        return true;
+        return own;
     }
     if !belongs_to(labels, Tet(i as u16), c, quads) {
-        return true;
+        return own;
     }
-    let line = [i as u16, parts[i]];
-    show_numbers(out, b"tet", &line)
+    push(own, i as u16, parts[i])
 }
 
-fn show_own_in(out: &mut [u8], labels: &[u16], parts: &[u16], c: &[u16], quads: &[u8]) -> bool
-    requires { ⌜ (length (now out) ≡ 65536) × (length (now labels) / 4 ≤ 2048) ⌝ }
+fn own_in(labels: &[u16], parts: &[u16], c: &[u16], quads: &[u8]) -> Own
+    requires { ⌜ length (now labels) / 4 ≤ 2048 ⌝ }
+    ensures { λ r. ⌜ r .count ≤ 25 ⌝ }
 {
+    let mut own = none();
     let mut i = 0;
     while i < parts.len() {
-        if !show_tet(out, labels, parts, c, quads, i) {
-            return false;
-        }
+        let next = with_tet(own, labels, parts, c, quads, i);
+        own = next;
         i += 1;
     }
-    true
+    own
 }
 
-fn show_own(out: &mut [u8], labels: &[u16], parts: &[u16], kind: u16, tuple: &[u16]) -> bool
-    requires { ⌜ (length (now out) ≡ 65536) × (length (now labels) / 4 ≤ 2048) × (8 ≤ length (now tuple)) ⌝ }
+fn own_of(labels: &[u16], parts: &[u16], kind: u16, tuple: &[u16; 8]) -> Own
+    requires { ⌜ length (now labels) / 4 ≤ 2048 ⌝ }
+    ensures { λ r. ⌜ r .count ≤ 25 ⌝ }
+{
+    own_by(labels, parts, kind, tuple)
+}
+
+fn own_by(labels: &[u16], parts: &[u16], kind: u16, tuple: &[u16]) -> Own
+    requires { ⌜ (length (now labels) / 4 ≤ 2048) × (8 ≤ length (now tuple)) ⌝ }
+    ensures { λ r. ⌜ r .count ≤ 25 ⌝ }
 {
     let table = all_rows();
     let all = &table[..];
@@ -290,73 +288,112 @@ fn show_own(out: &mut [u8], labels: &[u16], parts: &[u16], kind: u16, tuple: &[u
         within: _,
         end: _,
     } = bounds_of(kind);
-    show_own_in(out, labels, parts, &tuple[..corners], &all[quads..triples])
+    own_in(labels, parts, &tuple[..corners], &all[quads..triples])
 }
 
-// ---- what the finding asks for
+// ---- a corner's box
 
-fn show_edge(out: &mut [u8], kind: u16, i: u16) -> bool
-    requires { ⌜ length (now out) ≡ 65536 ⌝ }
-{
-    let Bounds {
-        corners: _,
-        edges,
-        triangles: _,
-        quads: _,
-        triples: _,
-        within: _,
-        end: _,
-    } = bounds_of(kind);
-    show_row(out, edges + 2 * ((i % 64) as usize), 2)
-}
-
-// Of condition 5's counts, condition 3's faces and the cell's tetrahedra.
-fn show_tets(
-    out: &mut [u8],
-    labels: &[u16],
-    parts: &[u16],
-    kind: u16,
-    tuple: &[u16; 8],
-    found: Finding,
-) -> bool
-    requires { ⌜ (length (now out) ≡ 65536) × (length (now labels) / 4 ≤ 2048) ⌝ }
-{
+// The point of a corner of a tuple.
+fn point_in(file: &[u8], n: usize, t: usize, tuple: &[u16], at: u8) -> Point {
+    let found = view::point_of(file, n, t, Vertex(corner(tuple, at)));
     match found {
-        Finding::NoFace(i) => show_face(out, labels, kind, tuple, i, false),
-        Finding::OpenFace(i) => show_face(out, labels, kind, tuple, i, true),
-        Finding::OpenTriple(u, v, w) => {
-            let k = own_at(labels, kind, tuple, Vertex(u), Vertex(v), Vertex(w));
-            show_number(STDOUT_FILENO, out, b"three", k as u64)
-        }
-        _ => show_own(out, labels, parts, kind, tuple),
+        Located::At(p) => p,
+        Located::Nowhere => Point { x: 0, y: 0, z: 0 },
     }
 }
 
-// The same, of a file that is read into the lent arrays.
-fn read_in(
-    out: &mut [u8],
+// How far the box at a corner triple is from 0.
+fn box_at(file: &[u8], n: usize, t: usize, tuple: &[u16; 8], p: [u8; 4]) -> u64 {
+    let answer = space::box_product(
+        point_in(file, n, t, tuple, p[0]),
+        point_in(file, n, t, tuple, p[1]),
+        point_in(file, n, t, tuple, p[2]),
+        point_in(file, n, t, tuple, p[3]),
+    );
+    match answer {
+        Boxed::Value(b) => size_of(b),
+        Boxed::Refused => 0,
+    }
+}
+
+// ---- what a reader would look up, of a file with a sound header
+
+struct Seen {
+    line: [u16; 10],
+    box_size: u64,
+    own: Own,
+}
+
+// The line of the mesh, the row that is told and its counts.
+fn line_of(n: usize, kind: u16, found: Finding, counts: [u16; 4]) -> [u16; 10]
+    ensures { λ r. ⌜ 10 ≡ length r ⌝ }
+{
+    let Spot { at, width } = spot_of(kind, found);
+    let p = places(at);
+    [
+        (n % 65536) as u16,
+        (width % 65536) as u16,
+        p[0] as u16,
+        p[1] as u16,
+        p[2] as u16,
+        p[3] as u16,
+        counts[0],
+        counts[1],
+        counts[2],
+        counts[3],
+    ]
+}
+
+fn seen_in(
     file: &[u8],
     coords: &mut [i64],
     labels: &mut [u16],
     parts: &mut [u16],
     asked: Asked,
-) -> bool
-    requires { ⌜ (length (now out) ≡ 65536) × Framed (now file) (length (now coords) / 3) (length (now parts)) ⌝ }
+) -> Seen
+    requires { ⌜ Framed (now file) (length (now coords) / 3) (length (now parts)) ⌝ }
     requires { ⌜ (length (now coords) ≡ 3 * (length (now coords) / 3)) × (length (now labels) ≡ 4 * length (now parts)) ⌝ }
+    ensures { λ r. ⌜ (10 ≡ length (r .line)) × (r .own .count ≤ 25) ⌝ }
 {
-    decode(file, coords.len() / 3, parts.len(), coords, labels, parts);
+    let n = coords.len() / 3;
+    let t = parts.len();
+    decode(file, n, t, coords, labels, parts);
     let Asked { kind, tuple, found } = asked;
-    show_tets(out, labels, parts, kind, &tuple, found)
+    let Spot { at, width: _ } = spot_of(kind, found);
+    Seen {
+        line: line_of(n, kind, found, counts_of(labels, kind, &tuple, found)),
+        box_size: box_at(file, n, t, &tuple, places(at)),
+        own: own_of(labels, parts, kind, &tuple),
+    }
 }
 
-fn read_tets(out: &mut [u8], file: &[u8], n: usize, t: usize, asked: Asked) -> bool
-    requires { ⌜ (length (now out) ≡ 65536) × Framed (now file) n t ⌝ }
+// Rooms, their lengths alone told.
+fn coordinate_room() -> [i64; 1536]
+    ensures { λ r. ⌜ 1536 ≡ length r ⌝ }
 {
-    let mut coords: [i64; 1536] = [0; 1536];
-    let mut labels: [u16; 8192] = [0; 8192];
-    let mut parts: [u16; 2048] = [0; 2048];
-    read_in(
-        out,
+    [0; 1536]
+}
+
+fn label_room() -> [u16; 8192]
+    ensures { λ r. ⌜ 8192 ≡ length r ⌝ }
+{
+    [0; 8192]
+}
+
+fn part_room() -> [u16; 2048]
+    ensures { λ r. ⌜ 2048 ≡ length r ⌝ }
+{
+    [0; 2048]
+}
+
+fn look(file: &[u8], n: usize, t: usize, asked: Asked) -> Seen
+    requires { ⌜ Framed (now file) n t ⌝ }
+    ensures { λ r. ⌜ (10 ≡ length (r .line)) × (r .own .count ≤ 25) ⌝ }
+{
+    let mut coords = coordinate_room();
+    let mut labels = label_room();
+    let mut parts = part_room();
+    seen_in(
         file,
         &mut coords[..3 * n],
         &mut labels[..4 * t],
@@ -365,39 +402,55 @@ fn read_tets(out: &mut [u8], file: &[u8], n: usize, t: usize, asked: Asked) -> b
     )
 }
 
-// What a reader would look up, of a file with a sound header.
-fn show_found(out: &mut [u8], file: &[u8], n: usize, t: usize, asked: Asked) -> bool
-    requires { ⌜ (length (now out) ≡ 65536) × Framed (now file) n t ⌝ }
-{
-    let Asked { kind, tuple, found } = asked;
-    match found {
-        Finding::BadCorner(_) => show_number(STDOUT_FILENO, out, b"vertices", n as u64),
-        Finding::NoEdge(i) => show_edge(out, kind, i),
-        Finding::BadBox(i) => show_box(out, file, n, t, kind, &tuple, i),
-        _ => read_tets(out, file, n, t, asked),
-    }
-}
-
 // ---- the job
 
-fn look_up(out: &mut [u8], file: &[u8], asked: Asked) -> bool
+fn show_front(out: &mut [u8], word: &[u8], list: &[u16], count: usize) -> bool
+    requires { ⌜ (length (now out) ≡ 65536) × (length (now word) ≤ 10) × (count ≤ 25) × (25 ≤ length (now list)) ⌝ }
+{
+    show_numbers(out, word, &list[..count])
+}
+
+fn show_first(out: &mut [u8], word: &[u8], list: &[u16; 25], count: usize) -> bool
+    requires { ⌜ (length (now out) ≡ 65536) × (length (now word) ≤ 10) × (count ≤ 25) ⌝ }
+{
+    show_front(out, word, list, count)
+}
+
+fn show_own(out: &mut [u8], own: Own) -> bool
+    requires { ⌜ (length (now out) ≡ 65536) × (own .count ≤ 25) ⌝ }
+{
+    let Own { count, tets, parts } = own;
+    if !show_first(out, b"tets", &tets, count) {
+        return false;
+    }
+    show_first(out, b"parts", &parts, count)
+}
+
+fn show_seen(out: &mut [u8], s: Seen) -> bool
+    requires { ⌜ (length (now out) ≡ 65536) × (10 ≡ length (s .line)) × (s .own .count ≤ 25) ⌝ }
+{
+    let Seen {
+        line,
+        box_size,
+        own,
+    } = s;
+    if !show_numbers(out, b"seen", &line) {
+        return false;
+    }
+    if !show_number(STDOUT_FILENO, out, b"box", box_size) {
+        return false;
+    }
+    show_own(out, own)
+}
+
+fn show_found(out: &mut [u8], file: &[u8], asked: Asked) -> bool
     requires { ⌜ length (now out) ≡ 65536 ⌝ }
 {
     let head = arrays::header(file);
     match head {
-        Checked::Accepted { vertices, tets } => show_found(out, file, vertices, tets, asked),
+        Checked::Accepted { vertices, tets } => show_seen(out, look(file, vertices, tets, asked)),
         Checked::Refused(_) => false,
     }
-}
-
-// Writes the answer's line, and then what a reader would look up.
-fn show_answer(out: &mut [u8], file: &[u8], asked: Asked, answer: &[u16]) -> bool
-    requires { ⌜ (length (now out) ≡ 65536) × (length (now answer) ≤ 10) ⌝ }
-{
-    if !show_numbers(out, b"why", answer) {
-        return false;
-    }
-    look_up(out, file, asked)
 }
 
 // Ten entries, their number alone told.
@@ -409,6 +462,17 @@ fn entries(found: Finding) -> [u16; 10]
     answer
 }
 
+fn show_answer(out: &mut [u8], file: &[u8], asked: Asked) -> bool
+    requires { ⌜ length (now out) ≡ 65536 ⌝ }
+{
+    let Asked { kind, tuple, found } = asked;
+    let answer = entries(found);
+    if !show_numbers(out, b"why", &answer) {
+        return false;
+    }
+    show_found(out, file, Asked { kind, tuple, found })
+}
+
 // The job, of the file that was read, for a kind and eight numbers.
 pub fn tell(out: &mut [u8], file: &[u8], kind: u16, tuple: [u16; 8])
     requires { ⌜ length (now out) ≡ 65536 ⌝ }
@@ -417,8 +481,7 @@ pub fn tell(out: &mut [u8], file: &[u8], kind: u16, tuple: [u16; 8])
     match found {
         Finding::Refused(number) => tell_refused(out, number),
         _ => {
-            let answer = entries(found);
-            if !show_answer(out, file, Asked { kind, tuple, found }, &answer) {
+            if !show_answer(out, file, Asked { kind, tuple, found }) {
                 tell_lost();
             }
         }

@@ -1,5 +1,5 @@
 -- `why_job::entries` meets its contract. Assumes nothing.
-use mathlib.Core.Path.{sym, _∙_, ap, refl}
+use mathlib.Core.Path.{refl, sym, _∙_, ap}
 use lib.ListN.{length}
 use Rattle.why.proofs.Entries.{entries-long}
 use borrow.Author.Needs.{needs}
