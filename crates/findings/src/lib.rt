@@ -1,4 +1,5 @@
-// What is found of a tuple of a mesh in arrays: that it is a cell, or the first condition that fails and where.
+// What is found of a tuple of a mesh in arrays: that it is a cell, or the first condition that fails and where; the same by
+// numbers.
 ghost use mathlib.Core.Path.{_≡_};
 ghost use mathlib.Core.Bool.{true};
 ghost use mathlib.Core.List.{List};
@@ -11,6 +12,7 @@ ghost use Rattle.tets_around.specs.between.Index.{Indexed};
 ghost use Rattle.tets_around.specs.between.Arrays.{Arrays};
 ghost use Rattle.templates.specs.Tables.{templateOf, tupleOf, isKind};
 ghost use Rattle.reasons.specs.Reason.{cellBy, turnedBy, foundCell, findingAt, findingOf};
+ghost use Rattle.reasons.specs.Numbers.{findingNumber, entriesLeft};
 ghost use Rattle.findings.specs.between.Numbers.{formNumbers};
 use failing::first_box;
 use failing::first_corner;
@@ -116,4 +118,46 @@ pub fn finding(
         return found_cell(kind, tuple);
     }
     found_at(coords, labels, offsets, entries, kind, tuple, k)
+}
+
+// ---- by numbers
+
+// The number of the refusal, and the entries as they were; or 0, and in the ten entries what was found.
+pub fn hand_out(found: Finding, answer: &mut [u16; 10]) -> u8
+    ensures number { λ r. ⌜ r ≡ findingNumber found ⌝ }
+    ensures answer { λ r. ⌜ now (answer .exit) ≡ entriesLeft found (now (answer .entry)) ⌝ }
+{
+    match found {
+        Finding::Refused(number) => {
+            return number;
+        }
+        Finding::Cell(a, b, c, d, e, f, g, h) => {
+            *answer = [0, a, b, c, d, e, f, g, h, 0];
+        }
+        Finding::Turned(a, b, c, d, e, f, g, h) => {
+            *answer = [7, a, b, c, d, e, f, g, h, 0];
+        }
+        Finding::BadCorner(i) => {
+            *answer = [1, i, 0, 0, 0, 0, 0, 0, 0, 0];
+        }
+        Finding::NoEdge(i) => {
+            *answer = [2, i, 0, 0, 0, 0, 0, 0, 0, 0];
+        }
+        Finding::NoFace(i) => {
+            *answer = [3, i, 0, 0, 0, 0, 0, 0, 0, 0];
+        }
+        Finding::BadBox(i) => {
+            *answer = [4, i, 0, 0, 0, 0, 0, 0, 0, 0];
+        }
+        Finding::OpenFace(i) => {
+            *answer = [5, 0, i, 0, 0, 0, 0, 0, 0, 0];
+        }
+        Finding::OpenTriple(u, v, w) => {
+            *answer = [5, 1, u, v, w, 0, 0, 0, 0, 0];
+        }
+        Finding::TwoParts => {
+            *answer = [6, 0, 0, 0, 0, 0, 0, 0, 0, 0];
+        }
+    }
+    0
 }

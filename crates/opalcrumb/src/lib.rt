@@ -15,7 +15,8 @@ ghost use Rattle.arrays.specs.Refusals.{refusal};
 ghost use Rattle.encoding.specs.File.{fileOf};
 ghost use Rattle.packing.specs.Packed.{packed, writtenNumber, roomAfter};
 ghost use Rattle.turning.specs.Form.{leastForm, leastNumber};
-ghost use Rattle.why.specs.Why.{explained, findingNumber, entriesLeft};
+ghost use Rattle.reasons.specs.Numbers.{findingNumber, entriesLeft};
+ghost use Rattle.why.specs.Why.{explained};
 ghost use Rattle.records.specs.Marks.{answerNumber};
 ghost use Rattle.opalcrumb.specs.Boundary.{lengthLeft, pointOf, boxedBy, boxLeft, leastLeft, markLeft, countLeft, endLeft, Passed};
 
@@ -126,7 +127,7 @@ pub extern "C" fn opalcrumb_why(
     ensures answer { λ k. ⌜ now (answer .exit) ≡ entriesLeft (explained (now (file .entry)) kind (now (corners .entry))) (now (answer .entry)) ⌝ }
 {
     let found = why::explain(file, kind, corners);
-    why::hand_out(found, answer) as u32
+    findings::hand_out(found, answer) as u32
 }
 
 // ---- a portion

@@ -27,7 +27,7 @@ pub fn show_number(fd: i32, out: &mut [u8], word: &[u8], x: u64) -> bool
 
 // Writes a line of a word and some numbers.
 pub fn show_numbers(out: &mut [u8], word: &[u8], numbers: &[u16]) -> bool
-    requires { ⌜ (length (now out) ≡ 65536) × (length (now word) ≤ 10) × (length (now numbers) ≤ 25) ⌝ }
+    requires { ⌜ (length (now out) ≡ 65536) × (length (now word) ≤ 10) × (length (now numbers) ≤ 10) ⌝ }
 {
     let a = put_text(out, 0, word);
     let b = put_numbers(out, a, numbers);

@@ -1,3 +1,4 @@
 pub mod First
 pub mod Reason
 pub mod True
+pub mod Numbers

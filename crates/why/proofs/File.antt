@@ -1,16 +1,19 @@
 -- The answer to a file, by the refusals in their order; and what it tells.
 -- Assumes nothing.
-use Prim.Native.Nat.{ℕ, _<_, _≤_}
+use Prim.Native.Nat.{ℕ, _/_, _<_, _≤_}
 use mathlib.Core.Path.{_≡_, refl, sym, _∙_, ap}
 use mathlib.Core.Bool.{Bool, true, false, not, cond}
 use mathlib.Core.List.{List, [], _∷_}
 use native.Mathlib.Omega.{arith}
 use borrow.Author.Tests.{eqb-true, ne-eqb, leb-true}
 use lib.Dec.{eqb}
+use lib.IntN.{ℤ}
+use lib.ListN.{length}
 use Rattle.base.specs.Lists.{all}
 use Rattle.base.specs.Refusals.{refuse, firstOf}
 use Rattle.base.proofs.Refusals.{passed, first-past, first-told, told, past, none-left}
 use Rattle.space.specs.Mesh.{Mesh}
+use Rattle.tets_around.specs.between.Arrays.{Arrays}
 use Rattle.layout.specs.Layout.{decoded}
 use Rattle.arrays.specs.Refusals.{refusals, refusal}
 use Rattle.templates.specs.Tables.{Template, hexahedron, prism, pyramid, templateOf, tupleOf, isKind}
@@ -22,7 +25,8 @@ use Rattle.reasons.specs.First.{firstFail}
 use Rattle.reasons.specs.Reason.{faces, isClosed, others, offending, leastFrom, cellBy, turnedBy, tripleBy, leastTurn, foundCell, foundOpen, findingAt, finding, findingOf}
 use Rattle.reasons.proofs.True.{found-is-true}
 use Rattle.reasons.proofs.Listed.{found-is-listed}
-use Rattle.why.specs.Why.{whyRefusals, foundUnless, explained, findingNumber}
+use Rattle.reasons.specs.Numbers.{findingNumber}
+use Rattle.why.specs.Why.{whyRefusals, foundUnless, explained}
 use Rattle.why.specs.Told.{Told}
 
 module _ (f : List ℕ) (k : ℕ) (vs : List ℕ) where
@@ -107,3 +111,8 @@ told-all f k vs = record {
   tells = λ e h l. rw (none-refused f k vs e h) (found-is-true (decoded f) k vs (omega (arith, few-corners k)));
   listed = λ e h l. rw (none-refused f k vs e h) (found-is-listed (decoded f) k vs (omega (arith, few-corners k)));
 }
+
+-- ---- the arrays, by the number of vertices that they hold
+
+pub as-counted : {zs : List ℤ} {ls ps os es : List ℕ} {n : ℕ} → Arrays zs ls ps n os es → Arrays zs ls ps (length zs / 3) os es
+as-counted a = rw (a .counted) a

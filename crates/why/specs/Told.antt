@@ -10,7 +10,8 @@ use Rattle.layout.specs.Layout.{decoded}
 use Rattle.arrays.specs.Refusals.{refusal}
 use Rattle.templates.specs.Tables.{templateOf, tupleOf, isKind}
 use Rattle.reasons.specs.True.{True, InTheList}
-use Rattle.why.specs.Why.{whyRefusals, explained, findingNumber}
+use Rattle.reasons.specs.Numbers.{findingNumber}
+use Rattle.why.specs.Why.{whyRefusals, explained}
 
 pub record Told (f : List ℕ) (k : ℕ) (vs : List ℕ) : Type 0 where
   -- the number told is that of the first refusal that applies

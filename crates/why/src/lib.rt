@@ -6,7 +6,7 @@ ghost use Rattle.layout.specs.between.Framed.{Framed};
 ghost use Rattle.arrays.specs.between.Headed.{headed};
 ghost use Rattle.arrays.specs.declared.Checked.the-variants.{Accepted};
 ghost use Rattle.templates.specs.Tables.{isKind};
-ghost use Rattle.why.specs.Why.{explained, findingNumber, entriesLeft};
+ghost use Rattle.why.specs.Why.{explained};
 use arrays::Checked;
 use findings::finding;
 use reasons::Finding;
@@ -54,15 +54,40 @@ fn explain_in(
     finding(coords, labels, parts, offsets, entries, kind, tuple)
 }
 
+// Rooms, their lengths alone told.
+fn coordinate_room() -> [i64; 1536]
+    ensures { λ r. ⌜ 1536 ≡ length r ⌝ }
+{
+    [0; 1536]
+}
+
+fn label_room() -> [u16; 8192]
+    ensures { λ r. ⌜ 8192 ≡ length r ⌝ }
+{
+    [0; 8192]
+}
+
+fn part_room() -> [u16; 2048]
+    ensures { λ r. ⌜ 2048 ≡ length r ⌝ }
+{
+    [0; 2048]
+}
+
+fn offset_room() -> [u16; 513]
+    ensures { λ r. ⌜ 513 ≡ length r ⌝ }
+{
+    [0; 513]
+}
+
 fn explain_framed(file: &[u8], n: usize, t: usize, kind: u16, tuple: &[u16; 8]) -> Finding
     requires { ⌜ Framed (now file) n t × (headed (now file) ≡ Accepted n t) ⌝ }
     ensures { λ r. ⌜ r ≡ explained (now (file .entry)) kind (now (tuple .entry)) ⌝ }
 {
-    let mut coords: [i64; 1536] = [0; 1536];
-    let mut labels: [u16; 8192] = [0; 8192];
-    let mut parts: [u16; 2048] = [0; 2048];
-    let mut offsets: [u16; 513] = [0; 513];
-    let mut entries: [u16; 8192] = [0; 8192];
+    let mut coords = coordinate_room();
+    let mut labels = label_room();
+    let mut parts = part_room();
+    let mut offsets = offset_room();
+    let mut entries = label_room();
     explain_in(
         file,
         n,
@@ -86,46 +111,4 @@ pub fn explain(file: &[u8], kind: u16, tuple: &[u16; 8]) -> Finding
         Checked::Accepted { vertices, tets } => explain_framed(file, vertices, tets, kind, tuple),
         Checked::Refused(number) => Finding::Refused(number),
     }
-}
-
-// ---- by numbers
-
-// The number of the refusal, and the entries as they were; or 0, and in the ten entries what was found.
-pub fn hand_out(found: Finding, answer: &mut [u16; 10]) -> u8
-    ensures number { λ r. ⌜ r ≡ findingNumber found ⌝ }
-    ensures answer { λ r. ⌜ now (answer .exit) ≡ entriesLeft found (now (answer .entry)) ⌝ }
-{
-    match found {
-        Finding::Refused(number) => {
-            return number;
-        }
-        Finding::Cell(a, b, c, d, e, f, g, h) => {
-            *answer = [0, a, b, c, d, e, f, g, h, 0];
-        }
-        Finding::Turned(a, b, c, d, e, f, g, h) => {
-            *answer = [7, a, b, c, d, e, f, g, h, 0];
-        }
-        Finding::BadCorner(i) => {
-            *answer = [1, i, 0, 0, 0, 0, 0, 0, 0, 0];
-        }
-        Finding::NoEdge(i) => {
-            *answer = [2, i, 0, 0, 0, 0, 0, 0, 0, 0];
-        }
-        Finding::NoFace(i) => {
-            *answer = [3, i, 0, 0, 0, 0, 0, 0, 0, 0];
-        }
-        Finding::BadBox(i) => {
-            *answer = [4, i, 0, 0, 0, 0, 0, 0, 0, 0];
-        }
-        Finding::OpenFace(i) => {
-            *answer = [5, 0, i, 0, 0, 0, 0, 0, 0, 0];
-        }
-        Finding::OpenTriple(u, v, w) => {
-            *answer = [5, 1, u, v, w, 0, 0, 0, 0, 0];
-        }
-        Finding::TwoParts => {
-            *answer = [6, 0, 0, 0, 0, 0, 0, 0, 0, 0];
-        }
-    }
-    0
 }

@@ -1,6 +1,6 @@
 -- `opalcrumb::opalcrumb_why` meets its contract. Assumes nothing.
 use mathlib.Core.Path.{_∙_, ap}
-use Rattle.why.specs.Why.{findingNumber, entriesLeft}
+use Rattle.reasons.specs.Numbers.{findingNumber, entriesLeft}
 use borrow.Author.Needs.{needs}
 use Rattle.opalcrumb.proofs.opalcrumb_why.Statement.{statement}
 use Rattle.opalcrumb.proofs.opalcrumb_why.Tie as tie

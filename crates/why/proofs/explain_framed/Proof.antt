@@ -2,12 +2,26 @@
 use mathlib.Core.Path.{sym}
 use Prim.Native.Nat.{suc, _+_, _*_}
 use native.Mathlib.Omega.{arith}
-use lib.ListN.{replicate}
 use lib.Seq.{length-take-le}
 use Rattle.arrays.proofs.Loads.{reaches}
 use borrow.Author.Needs.{needs}
 use Rattle.why.proofs.explain_framed.Statement.{statement}
 use Rattle.why.proofs.explain_framed.Tie as tie
+
+coordinate-room-requires : tie.Need-coordinate-room-requires
+coordinate-room-requires c κs = search needs
+
+label-room-requires : tie.Need-label-room-requires
+label-room-requires c κs = search needs
+
+part-room-requires : tie.Need-part-room-requires
+part-room-requires c κs = search needs
+
+offset-room-requires : tie.Need-offset-room-requires
+offset-room-requires c κs = search needs
+
+label-room-requires-2 : tie.Need-label-room-requires-2
+label-room-requires-2 c κs = search needs
 
 mul-coords : tie.Need-mul-coords
 mul-coords c = search needs
@@ -52,13 +66,15 @@ slice-aggregate-explain-in-5 : tie.Need-slice-aggregate-explain-in-5
 slice-aggregate-explain-in-5 c = sym (length-take-le _ _ (search needs))
 
 explain-in-requires : tie.Need-explain-in-requires
-explain-in-requires c κs = let s = c .before .before .before .before .before .before in (
-  s .pre,
-  (
-    (length-take-le _ _ (search needs), (length-take-le _ _ (search needs), length-take-le _ _ (search needs))),
-    (reaches (suc (s .args .n)) (s .args .n + 1) (replicate 513 0) (search needs) (omega arith), reaches (4 * s .args .t) (4 * s .args .t) (replicate 8192 0) (search needs) (omega arith)),
-  ),
-)
+explain-in-requires c κs = let s = c .before .before .before .before .before .before .before .before .before .before .before in
+    let offsets = c .before .before .before .before .before .before .offset-room in
+    let entries = c .before .before .before .before .before .label-room2 in (
+      s .pre,
+      (
+        (length-take-le _ _ (search needs), (length-take-le _ _ (search needs), length-take-le _ _ (search needs))),
+        (reaches (suc (s .args .n)) (s .args .n + 1) (offsets .result) (search needs) (omega arith), reaches (4 * s .args .t) (4 * s .args .t) (entries .result) (search needs) (omega arith)),
+      ),
+    )
 
 returns : tie.Need-returns
 returns c = search needs
@@ -67,6 +83,11 @@ pub explain-framed-spec : {M : Type 1} → statement M
 explain-framed-spec =
     tie.close
     (tie.spec
+    coordinate-room-requires
+    label-room-requires
+    part-room-requires
+    offset-room-requires
+    label-room-requires-2
     mul-coords
     array-borrow-prefix-coords
     slice-aggregate-explain-in

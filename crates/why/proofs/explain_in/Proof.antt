@@ -2,8 +2,7 @@
 use mathlib.Core.Path.{sym, _∙_}
 use native.Mathlib.Omega.{arith}
 use borrow.Author.Tests.{not-true, not-false}
-use Rattle.why.proofs.Entries.{as-counted}
-use Rattle.why.proofs.File.{file-refused, kind-refused, found-file}
+use Rattle.why.proofs.File.{file-refused, kind-refused, found-file, as-counted}
 use borrow.Author.Needs.{needs}
 use Rattle.why.proofs.explain_in.Statement.{statement}
 use Rattle.why.proofs.explain_in.Tie as tie

@@ -1,7 +1,7 @@
 -- `why_job::entries` meets its contract. Assumes nothing.
 use mathlib.Core.Path.{refl, sym, _∙_, ap}
 use lib.ListN.{length}
-use Rattle.why.proofs.Entries.{entries-long}
+use Rattle.findings.proofs.Entries.{entries-long}
 use borrow.Author.Needs.{needs}
 use Rattle.why_job.proofs.entries.Statement.{statement}
 use Rattle.why_job.proofs.entries.Tie as tie

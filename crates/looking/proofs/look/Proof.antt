@@ -1,10 +1,10 @@
--- `why_job::look` meets its contract. Assumes nothing.
+-- `looking::look` meets its contract. Assumes nothing.
 use mathlib.Core.Path.{sym}
 use lib.Seq.{length-take-le}
-use Rattle.why_job.proofs.Lengths.{framed-as, in-threes, in-fours}
+use Rattle.looking.proofs.Lengths.{framed-as, in-threes, in-fours}
 use borrow.Author.Needs.{needs}
-use Rattle.why_job.proofs.look.Statement.{statement}
-use Rattle.why_job.proofs.look.Tie as tie
+use Rattle.looking.proofs.look.Statement.{statement}
+use Rattle.looking.proofs.look.Tie as tie
 
 coordinate-room-requires : tie.Need-coordinate-room-requires
 coordinate-room-requires c κs = search needs

@@ -1,9 +1,9 @@
--- `why_job::own_at` meets its contract. Assumes nothing.
+-- `looking::own_at` meets its contract. Assumes nothing.
 use lib.ListN.{length-take}
 use native.Mathlib.Omega.{arith}
 use borrow.Author.Needs.{needs}
-use Rattle.why_job.proofs.own_at.Statement.{statement}
-use Rattle.why_job.proofs.own_at.Tie as tie
+use Rattle.looking.proofs.own_at.Statement.{statement}
+use Rattle.looking.proofs.own_at.Tie as tie
 
 all-rows-requires : tie.Need-all-rows-requires
 all-rows-requires c κs = search needs

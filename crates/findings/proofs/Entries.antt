@@ -1,14 +1,12 @@
--- A finding by its numbers, and the arrays by the number of vertices that they hold.
+-- A finding by its numbers.
 -- Assumes nothing.
-use Prim.Native.Nat.{ℕ, _/_}
+use Prim.Native.Nat.{ℕ}
 use mathlib.Core.Path.{_≡_, refl, ap}
 use mathlib.Core.List.{List}
-use lib.IntN.{ℤ}
 use lib.ListN.{length}
-use Rattle.tets_around.specs.between.Arrays.{Arrays}
 use Rattle.reasons.specs.declared.Finding.{Finding}
 use Rattle.reasons.specs.declared.Finding.the-variants.{Cell, Turned, BadCorner, NoEdge, NoFace, BadBox, OpenFace, OpenTriple, TwoParts, Refused}
-use Rattle.why.specs.Why.{findingNumber, entriesLeft}
+use Rattle.reasons.specs.Numbers.{findingNumber, entriesLeft}
 
 pub handed : {v w : Finding} (old : List ℕ) → v ≡ w → (findingNumber v ≡ findingNumber w) × (entriesLeft v old ≡ entriesLeft w old)
 handed old e = (ap findingNumber e, ap (λ w. entriesLeft w old) e)
@@ -24,6 +22,3 @@ entries-long (OpenFace i) old l = refl
 entries-long (OpenTriple u v w) old l = refl
 entries-long TwoParts old l = refl
 entries-long (Refused r) old l = l
-
-pub as-counted : {zs : List ℤ} {ls ps os es : List ℕ} {n : ℕ} → Arrays zs ls ps n os es → Arrays zs ls ps (length zs / 3) os es
-as-counted a = rw (a .counted) a

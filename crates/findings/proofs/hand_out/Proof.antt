@@ -1,9 +1,9 @@
--- `why::hand_out` meets its contract. Assumes nothing.
+-- `findings::hand_out` meets its contract. Assumes nothing.
 use mathlib.Core.Path.{sym}
-use Rattle.why.proofs.Entries.{handed}
+use Rattle.findings.proofs.Entries.{handed}
 use borrow.Author.Needs.{needs}
-use Rattle.why.proofs.hand_out.Statement.{statement}
-use Rattle.why.proofs.hand_out.Tie as tie
+use Rattle.findings.proofs.hand_out.Statement.{statement}
+use Rattle.findings.proofs.hand_out.Tie as tie
 
 enum-known-found : tie.Need-enum-known-found
 enum-known-found c = search needs
