@@ -181,7 +181,8 @@ fn face_in(
     quads: &[u8],
 ) -> usize
     requires { ⌜ Indexed (now labels) n (now offsets) (now entries) ⌝ }
-    ensures { λ r. ⌜ r ≡ firstFail (isThere (facetIn (now (labels .entry)) (now (c .entry)))) (facesBy (threes (now (triangles .entry))) (fours (now (quads .entry)))) ⌝ }
+    ensures { λ r. ⌜ r ≡ firstFail (isThere (facetIn (now (labels .entry)) (now (c .entry))))
+        (facesBy (threes (now (triangles .entry))) (fours (now (quads .entry)))) ⌝ }
 {
     let i = facet_in(labels, n, offsets, entries, c, triangles);
     if i < triangles.len() / 3 {
@@ -245,7 +246,8 @@ fn box_in(coords: &[i64], c: &[u16], rows: &[u8]) -> usize
 // The row of the first corner triple whose box is not above 0.
 pub fn first_box(coords: &[i64], kind: u16, tuple: &[u16]) -> u16
     requires { ⌜ Close (now coords) × (8 ≤ length (now tuple)) ⌝ }
-    ensures { λ r. ⌜ r ≡ firstFail (λ ks. isAbove0 (boxOf (pointsOf (now (coords .entry))) (at (tupleOf kind (now (tuple .entry))) ks))) (templateOf kind .triples) ⌝ }
+    ensures { λ r. ⌜ r ≡ firstFail (λ ks. isAbove0 (boxOf (pointsOf (now (coords .entry))) (at (tupleOf kind (now (tuple .entry))) ks)))
+        (templateOf kind .triples) ⌝ }
 {
     let table = all_rows();
     let all = &table[..];

@@ -1,5 +1,5 @@
-// What is found of a tuple of a mesh in arrays: that it is a cell, or the first condition that fails and where; the same by
-// numbers.
+// What is found of a tuple of a mesh in arrays: that it is a cell, or the first condition that fails and where. The same
+// by numbers.
 ghost use mathlib.Core.Path.{_≡_};
 ghost use mathlib.Core.Bool.{true};
 ghost use mathlib.Core.List.{List};

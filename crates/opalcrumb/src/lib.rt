@@ -114,8 +114,8 @@ pub extern "C" fn opalcrumb_least_form(kind: u16, corners: &[u16; 8], least: &mu
 }
 
 // 0 and what is found of a tuple in ten entries, or 1 to 9 or 16, and `answer` as it was. Entry 0 is 0 for a cell in
-// least form and 7 for a cell turned, both with their least form in entries 1 to 8; else the first condition that fails,
-// followed by where it fails.
+// least form and 7 for a cell turned, both with their least form in entries 1 to 8; else the first condition that
+// fails, followed by where it fails.
 #[no_mangle]
 pub extern "C" fn opalcrumb_why(
     file: &[u8],

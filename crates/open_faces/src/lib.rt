@@ -74,7 +74,8 @@ fn is_once(labels: &[u16], c: &[u16], quads: &[u8], x: &[u16], rows: &[u8], i: u
 // The first row of a table of places of x that is not a facet of exactly one.
 fn first_not_once(labels: &[u16], c: &[u16], quads: &[u8], x: &[u16], rows: &[u8]) -> usize
     requires { ⌜ length (now labels) / 4 ≤ 2048 ⌝ }
-    ensures { λ r. ⌜ r ≡ firstFail (once (sidesIn (now (labels .entry)) (now (quads .entry)) (now (c .entry)) (now (x .entry)))) (threes (now (rows .entry))) ⌝ }
+    ensures { λ r. ⌜ r ≡ firstFail (once (sidesIn (now (labels .entry)) (now (quads .entry)) (now (c .entry)) (now (x .entry))))
+        (threes (now (rows .entry))) ⌝ }
 {
     let k = rows.len() / 3;
     let mut i = 0;
@@ -117,7 +118,8 @@ fn is_halved(labels: &[u16], c: &[u16], quads: &[u8], i: usize) -> bool
 
 fn first_not_halved(labels: &[u16], c: &[u16], quads: &[u8]) -> usize
     requires { ⌜ length (now labels) / 4 ≤ 2048 ⌝ }
-    ensures { λ r. ⌜ r ≡ firstFail (halves (sidesIn (now (labels .entry)) (now (quads .entry)) (now (c .entry)) (now (c .entry)))) (fours (now (quads .entry))) ⌝ }
+    ensures { λ r. ⌜ r ≡ firstFail (halves (sidesIn (now (labels .entry)) (now (quads .entry)) (now (c .entry)) (now (c .entry))))
+        (fours (now (quads .entry))) ⌝ }
 {
     let k = quads.len() / 4;
     let mut i = 0;

@@ -1,4 +1,4 @@
--- Condition 3 holds exactly where every face is there; condition 5 exactly where no face offends and no other triple does.
+-- Condition 3 holds exactly where every face is there, 5 exactly where no face offends and no other triple does.
 -- Assumes nothing.
 use Prim.Native.Nat.{ℕ}
 use mathlib.Core.Path.{_≡_, refl, sym, _∙_, ap, ap₂}

@@ -1,5 +1,5 @@
--- What a finding tells: the condition fails, and where it says; every earlier condition holds, and every earlier place of
--- the same table passes. And that a cell is told of exactly where its least form stands in the full list.
+-- What a finding tells: the condition fails, and where it says; every earlier condition holds, and every earlier place
+-- of the same table passes. And that a cell is told of exactly where its least form stands in the full list.
 -- Assumes nothing.
 use Prim.Native.Nat.{ℕ}
 use mathlib.Core.Path.{_≡_}

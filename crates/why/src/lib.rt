@@ -102,7 +102,8 @@ fn explain_framed(file: &[u8], n: usize, t: usize, kind: u16, tuple: &[u16; 8]) 
     )
 }
 
-// What is found of a tuple of a kind in a file's mesh. Refusals 1 to 9 of the file come first, then 16 for another kind.
+// What is found of a tuple of a kind in a file's mesh. Refusals 1 to 9 of the file come first, then 16 for another
+// kind.
 pub fn explain(file: &[u8], kind: u16, tuple: &[u16; 8]) -> Finding
     ensures { λ r. ⌜ r ≡ explained (now (file .entry)) kind (now (tuple .entry)) ⌝ }
 {

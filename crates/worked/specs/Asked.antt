@@ -59,8 +59,8 @@ asked =
     finds fileC 6 (7 ∷ 6 ∷ 5 ∷ 0 ∷ 2 ∷ 1 ∷ 8 ∷ 8 ∷ []) (Turned 0 1 2 7 5 6 0 0) ∷
     finds fileC 5 (0 ∷ 1 ∷ 2 ∷ 7 ∷ 5 ∷ 8 ∷ 8 ∷ 8 ∷ []) (Cell 0 1 2 7 5 0 0 0) ∷
     finds fileC 5 (1 ∷ 2 ∷ 7 ∷ 0 ∷ 5 ∷ 1 ∷ 1 ∷ 1 ∷ []) (Turned 0 1 2 7 5 0 0 0) ∷
-    -- 1: not below n, equal to an earlier corner; both, in either order; the last place that counts, in numbers that are
-    -- a cell of kind 5; no vertices at all
+    -- 1: not below n, equal to an earlier corner; both, in either order; the last place that counts, in numbers that
+    -- are a cell of kind 5; no vertices at all
     finds fileC 8 (0 ∷ 1 ∷ 2 ∷ 3 ∷ 4 ∷ 5 ∷ 6 ∷ 8 ∷ []) (BadCorner 7) ∷
     finds fileC 8 (0 ∷ 1 ∷ 2 ∷ 1 ∷ 4 ∷ 5 ∷ 6 ∷ 7 ∷ []) (BadCorner 3) ∷
     finds fileC 8 (0 ∷ 1 ∷ 2 ∷ 0 ∷ 4 ∷ 5 ∷ 6 ∷ 8 ∷ []) (BadCorner 3) ∷

@@ -1,10 +1,10 @@
--- `looking::sharers_at` meets its contract. Assumes nothing.
+-- `tallies::sharers_at` meets its contract. Assumes nothing.
 use mathlib.Core.Path.{_≡_}
 use Prim.Native.Nat.{_/_, _-_, _≤_}
 use lib.ListN.{length}
 use borrow.Author.Needs.{needs}
-use Rattle.looking.proofs.sharers_at.Statement.{statement}
-use Rattle.looking.proofs.sharers_at.Tie as tie
+use Rattle.tallies.proofs.sharers_at.Statement.{statement}
+use Rattle.tallies.proofs.sharers_at.Tie as tie
 
 abbrev Inv-loop : tie.InvT-loop
 Inv-loop labels u v w t found₀ i₀ found i = (t ≡ length labels / 4) × (found ≤ i)

@@ -1,8 +1,8 @@
--- `looking::two_parts` meets its contract. Assumes nothing.
+-- `tallies::two_parts` meets its contract. Assumes nothing.
 use native.Mathlib.Omega.{arith}
 use borrow.Author.Needs.{needs}
-use Rattle.looking.proofs.two_parts.Statement.{statement}
-use Rattle.looking.proofs.two_parts.Tie as tie
+use Rattle.tallies.proofs.two_parts.Statement.{statement}
+use Rattle.tallies.proofs.two_parts.Tie as tie
 
 first-apart-requires : tie.Need-first-apart-requires
 first-apart-requires c κs = search needs

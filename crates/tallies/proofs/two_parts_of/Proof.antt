@@ -1,9 +1,9 @@
--- `looking::two_parts_of` meets its contract. Assumes nothing.
+-- `tallies::two_parts_of` meets its contract. Assumes nothing.
 use lib.ListN.{length-take}
 use native.Mathlib.Omega.{arith}
 use borrow.Author.Needs.{needs}
-use Rattle.looking.proofs.two_parts_of.Statement.{statement}
-use Rattle.looking.proofs.two_parts_of.Tie as tie
+use Rattle.tallies.proofs.two_parts_of.Statement.{statement}
+use Rattle.tallies.proofs.two_parts_of.Tie as tie
 
 all-rows-requires : tie.Need-all-rows-requires
 all-rows-requires c κs = search needs

@@ -1,8 +1,8 @@
--- `looking::is_apart` meets its contract. Assumes nothing.
+-- `tallies::is_apart` meets its contract. Assumes nothing.
 use native.Mathlib.Omega.{arith}
 use borrow.Author.Needs.{needs}
-use Rattle.looking.proofs.is_apart.Statement.{statement}
-use Rattle.looking.proofs.is_apart.Tie as tie
+use Rattle.tallies.proofs.is_apart.Statement.{statement}
+use Rattle.tallies.proofs.is_apart.Tie as tie
 
 returns : tie.Need-returns
 returns c = search needs

@@ -1,9 +1,9 @@
--- `looking::first_apart` meets its contract. Assumes nothing.
+-- `tallies::first_apart` meets its contract. Assumes nothing.
 use Prim.Native.Nat.{_-_}
 use lib.ListN.{length}
 use borrow.Author.Needs.{needs}
-use Rattle.looking.proofs.first_apart.Statement.{statement}
-use Rattle.looking.proofs.first_apart.Tie as tie
+use Rattle.tallies.proofs.first_apart.Statement.{statement}
+use Rattle.tallies.proofs.first_apart.Tie as tie
 
 abbrev Inv-loop : tie.InvT-loop
 Inv-loop labels parts c quads part i₀ i = Unit {0}

@@ -1,9 +1,9 @@
--- `looking::own_at` meets its contract. Assumes nothing.
+-- `tallies::own_at` meets its contract. Assumes nothing.
 use lib.ListN.{length-take}
 use native.Mathlib.Omega.{arith}
 use borrow.Author.Needs.{needs}
-use Rattle.looking.proofs.own_at.Statement.{statement}
-use Rattle.looking.proofs.own_at.Tie as tie
+use Rattle.tallies.proofs.own_at.Statement.{statement}
+use Rattle.tallies.proofs.own_at.Tie as tie
 
 all-rows-requires : tie.Need-all-rows-requires
 all-rows-requires c κs = search needs
