@@ -54,7 +54,8 @@ fn found_cell(kind: u16, tuple: &[u16; 8]) -> Finding
     requires { ⌜ (isKind kind ≡ true) × (distinct (tupleOf kind (now tuple)) ≡ true) ⌝ }
     ensures { λ r. ⌜ r ≡ foundCell (templateOf kind) (tupleOf kind (now (tuple .entry))) ⌝ }
 {
-    let form = numbers(least_form(kind, *tuple));
+    let asked = *tuple;
+    let form = numbers(least_form(kind, asked));
     if is_least(kind, tuple) {
         return cell(form);
     }
