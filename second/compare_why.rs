@@ -267,7 +267,7 @@ fn bent_pyramid() -> Draft {
     Draft { parts: vec![0, 0, 1], ..drafted(&points, &[[0, 1, 2, 4], [0, 2, 3, 4], [0, 1, 2, 3]]) }
 }
 
-// The most tetrahedra that were found to have place on the corners of one tuple; more than 25 never have.
+// The most tetrahedra that were found to have place on the corners of one tuple: 23.
 fn thronged() -> Draft {
     let points = [
         [-31, -36, -156], [33, -108, -27], [126, 240, -143], [117, -52, -128],

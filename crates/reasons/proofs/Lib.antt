@@ -4,3 +4,4 @@ pub mod Filled
 pub mod Least
 pub mod True
 pub mod Listed
+pub mod Triples
