@@ -74,7 +74,7 @@ rising (x ∷ xs) = insert x (rising xs)
 unfoldable pub offending : (List ℕ → ℕ) → List ℕ → List (List ℕ) → List (List ℕ)
 offending g c ks = map (λ ks. rising (at c ks)) (keep (λ ks. not (paired g ks)) ks)
 
--- the lesserOf of two, where nothing counts as the greatest; and the least of these and of x
+-- the lesser of two, where nothing counts as the greatest; and the least of these and of x
 abbrev pub lesserOf : List ℕ → List ℕ → List ℕ
 lesserOf [] y = y
 lesserOf (x ∷ xs) y = cond (before y (x ∷ xs)) y (x ∷ xs)
