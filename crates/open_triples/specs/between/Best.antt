@@ -15,7 +15,7 @@ use Rattle.open_triples.specs.declared.Best.{Best}
 abbrev pub held : Best → List ℕ
 held x = cond (x .some) (x .u ∷ x .v ∷ x .w ∷ []) []
 
--- the lesserOf of what is held and of one triple of places of x, where it offends
+-- the lesser of what is held and of one triple of places of x, where it offends
 unfoldable pub offered : (List ℕ → ℕ) → List ℕ → List ℕ → List ℕ → List ℕ
 offered g x b ks = cond (paired g ks) b (lesserOf b (rising (at x ks)))
 
