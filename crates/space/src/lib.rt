@@ -56,23 +56,6 @@ fn diff(a: i64, b: i64) -> i64
     b - a
 }
 
-// The 2 by 2 determinant of the rows (a, b) and (c, d).
-fn minor(a: i64, b: i64, c: i64, d: i64) -> i64
-    requires { ⌜ Small 100000 a × (Small 100000 b × (Small 100000 c × Small 100000 d)) ⌝ }
-    ensures { λ r. ⌜ r ≡ a *ℤ d -ℤ b *ℤ c ⌝ }
-{
-    a * d - b * c
-}
-
-// The sum of the entries of a row, times their cofactors.
-fn expand(x: i64, y: i64, z: i64, i: i64, j: i64, k: i64) -> i64
-    requires { ⌜ Small 100000 x × (Small 100000 y × Small 100000 z) ⌝ }
-    requires { ⌜ Small 20000000000 i × (Small 20000000000 j × Small 20000000000 k) ⌝ }
-    ensures { λ r. ⌜ r ≡ x *ℤ i -ℤ y *ℤ j +ℤ z *ℤ k ⌝ }
-{
-    x * i - y * j + z * k
-}
-
 // q - p.
 fn from_to(p: Point, q: Point) -> Point
     requires { ⌜ Sized 50000 p × Sized 50000 q ⌝ }
@@ -85,14 +68,16 @@ fn from_to(p: Point, q: Point) -> Point
     }
 }
 
+// (a × b) · c, as (ab × ad) · ae at corner a of a hexahedron. First the three numbers of the cross product, each at most
+// 20,000,000,000 in size, then their dot product with c.
 fn determinant(a: Point, b: Point, c: Point) -> i64
     requires { ⌜ Sized 100000 a × (Sized 100000 b × Sized 100000 c) ⌝ }
     ensures { λ r. ⌜ r ≡ det a b c ⌝ }
 {
-    let i = minor(b.y, b.z, c.y, c.z);
-    let j = minor(b.x, b.z, c.x, c.z);
-    let k = minor(b.x, b.y, c.x, c.y);
-    expand(a.x, a.y, a.z, i, j, k)
+    let cross_x = a.y * b.z - a.z * b.y;
+    let cross_y = a.z * b.x - a.x * b.z;
+    let cross_z = a.x * b.y - a.y * b.x;
+    cross_x * c.x + cross_y * c.y + cross_z * c.z
 }
 
 // box(p; q, r, s) of points in bounds.
