@@ -68,8 +68,8 @@ fn from_to(p: Point, q: Point) -> Point
     }
 }
 
-// (a × b) · c, as (ab × ad) · ae at corner a of a hexahedron. First the three numbers of the cross product, each at most
-// 20,000,000,000 in size, then their dot product with c.
+// (a × b) · c of three edges. For the edges ab, ad, ae at a hexahedron's first corner it is the paper's (ab × ad) · ae.
+// Each of the three numbers of the cross product is at most 20,000,000,000 in size.
 fn determinant(a: Point, b: Point, c: Point) -> i64
     requires { ⌜ Sized 100000 a × (Sized 100000 b × Sized 100000 c) ⌝ }
     ensures { λ r. ⌜ r ≡ det a b c ⌝ }
