@@ -1,5 +1,7 @@
 // The look-ahead's aim at a place: which vertices cannot link the faces to come, by what links the first three corners
 // of the tuple. x is the row of a place in the tables of the levels.
+#![tactic(auto)]
+
 ghost use Rattle.std.specs.Prelude.{◌≡◌, ◌⊎◌};
 ghost use Rattle.neighbours.specs.between.Reading.{Rowed};
 ghost use Rattle.reaching.specs.between.Reaching.{Lent};
@@ -18,7 +20,7 @@ pub const HUB: usize = 24;
 
 // What the look-ahead at a place goes by: whether any cell goes on, whether both pairs of the row are asked for, and
 // two vertices that may not link them, which may be one.
-#[derive(Drop)]
+#[derive(Clone, Copy)]
 pub struct Aim {
     pub some: bool,
     pub both: bool,

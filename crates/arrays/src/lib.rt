@@ -1,5 +1,7 @@
 // A mesh file read into arrays that the caller lends, with its index, and refusals 1 to 9 on the way: for everyone who
 // asks about a file's tetrahedra or cells. The tests stand in the order of the list `refusals`.
+#![tactic(auto)]
+
 ghost use Rattle.std.specs.Prelude.{◌≡◌, ◌*◌, ◌≤◌, ◌<◌, length};
 ghost use Rattle.base.specs.Refusals.{first_of};
 ghost use Rattle.space.specs.between.Working.{Close};
@@ -17,7 +19,7 @@ use tets::{any_flat, any_outside, any_twice};
 use tets_around::index;
 
 // What is answered of a file: the counts, or the refusal.
-#[derive(Drop)]
+#[derive(Clone, Copy)]
 pub enum Checked {
     Accepted { vertices: usize, tets: usize },
     Refused(u8),

@@ -30,6 +30,7 @@ module _ {A : Type 0} (p : A → Bool) where
 
   pub all-at : (xs : List A) → all p xs ≡ true → {x : A} → Memᴰ x xs → p x ≡ true
   all-at (y ∷ ys) e (Memᴰ.head q) = ap p q ∙ both_left (p y) (all p ys) e
+  all-at [] e x4 = elim x4 [ ]
   all-at (y ∷ ys) e (Memᴰ.tail h) = all-at ys (both_right (p y) (all p ys) e) h
 
   pub all_from : (xs : List A) → ((x : A) → Memᴰ x xs → p x ≡ true) → all p xs ≡ true

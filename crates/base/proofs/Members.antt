@@ -17,6 +17,7 @@ use Rattle.base.proofs.Lists.{both_left, both_right}
 module _ {A : Type 0} where
   pub keep_at : (p : A → Bool) (xs : List A) {x : A} → Memᴰ x (keep p xs) → Memᴰ x xs × (p x ≡ true)
   unfolding keep
+  keep_at p [] {x = x} h = elim h [ ]
   keep_at p (y ∷ ys) {x} h = go (p y) refl h (λ g. keep_at p ys g)
     where
       go : (b : Bool) → p y ≡ b → Memᴰ x (cond b (y ∷ keep p ys) (keep p ys)) → (Memᴰ x (keep p ys) → Memᴰ x ys × (p x ≡ true)) → Memᴰ x (y ∷ ys) × (p x ≡ true)
@@ -27,6 +28,7 @@ module _ {A : Type 0} where
   pub keep-has : (p : A → Bool) (xs : List A) {x : A} → Memᴰ x xs → p x ≡ true → Memᴰ x (keep p xs)
   unfolding keep
   keep-has p (y ∷ ys) (Memᴰ.head q) e = rw (← ap p q, e) (Memᴰ.head q)
+  keep-has p [] {x = x} x4 e = elim x4 [ ]
   keep-has p (y ∷ ys) {x} (Memᴰ.tail h) e = go (p y) (keep-has p ys h e)
     where
       go : (b : Bool) → Memᴰ x (keep p ys) → Memᴰ x (cond b (y ∷ keep p ys) (keep p ys))
@@ -110,25 +112,30 @@ module _ {A : Type 0} (p : A → Bool) where
 module _ {A B : Type 0} where
   pub map_at : (f : A → B) (xs : List A) {y : B} → Memᴰ y (map f xs) → (x : A) × Memᴰ x xs × (y ≡ f x)
   map_at f (x ∷ xs) (Memᴰ.head q) = (x, Memᴰ.head refl, q)
+  map_at f [] {y = y} x' = elim x' [ ]
   map_at f (x ∷ xs) (Memᴰ.tail h) = let r = map_at f xs h in (r.0, Memᴰ.tail r.1, r.2)
 
   pub map-has : (f : A → B) (xs : List A) {x : A} → Memᴰ x xs → Memᴰ (f x) (map f xs)
   map-has f (y ∷ ys) (Memᴰ.head q) = Memᴰ.head (ap f q)
+  map-has f [] x3 = elim x3 [ ]
   map-has f (y ∷ ys) (Memᴰ.tail h) = Memᴰ.tail (map-has f ys h)
 
   pub spread_at : (f : A → List B) (xs : List A) {y : B} → Memᴰ y (spread f xs) → (x : A) × Memᴰ x xs × Memᴰ y (f x)
   unfolding spread
+  spread_at f [] {y = y} h = elim h [ ]
   spread_at f (x ∷ xs) {y} h = ⊎_elim (λ g. (x, Memᴰ.head refl, g)) (λ g. let r = spread_at f xs g in (r.0, Memᴰ.tail r.1, r.2)) (Memᴰ.append_cases (f x) h)
 
   pub spread-has : (f : A → List B) (xs : List A) {x : A} {y : B} → Memᴰ x xs → Memᴰ y (f x) → Memᴰ y (spread f xs)
   unfolding spread
   spread-has f (z ∷ zs) {x} {y} (Memᴰ.head q) g = Memᴰ.append_left (spread f zs) (subst (λ w. Memᴰ y (f w)) q g)
+  spread-has f [] {x = x} {y = y} x4 g = elim x4 [ ]
   spread-has f (z ∷ zs) (Memᴰ.tail h) g = Memᴰ.append_right (f z) (spread-has f zs h g)
 
 -- ── numbers ──
 
 pub from_at : (i k : ℕ) {v : ℕ} → Memᴰ v (from i k) → (i ≤ v) × (v < i + k)
 from_at i (suc k) (Memᴰ.head q) = (omega arith, omega arith)
+from_at i zero {v = v} x' = elim x' [ ]
 from_at i (suc k) (Memᴰ.tail h) = let r = from_at (suc i) k h in (omega arith, omega arith)
 
 pub from-has : (i k v : ℕ) → i ≤ v → v < i + k → Memᴰ v (from i k)

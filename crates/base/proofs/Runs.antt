@@ -57,6 +57,7 @@ keep_same p q i (suc k) h = rw (h i (omega arith), keep_same p q (suc i) k (λ x
 -- what is in a list stands at some place of it
 pub place_of : {x : ℕ} (xs : List ℕ) → Memᴰ x xs → (i : ℕ) × (i < length xs) × (get_or xs i 0 ≡ x)
 place_of (y ∷ ys) (Memᴰ.head q) = (0, omega arith, sym q)
+place_of [] x'' = elim x'' [ ]
 place_of (y ∷ ys) (Memᴰ.tail h) = let r = place_of ys h in (suc r.0, omega (arith, r.1), r.2)
 
 -- a test keeps of a run numbers that rise

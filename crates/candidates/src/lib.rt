@@ -1,6 +1,8 @@
 // The next candidate at a place: the first vertex that stands in the rows of two corners joined to it and with which
 // the tuple passes there.
 // x is the row of a place in the tables of the levels.
+#![tactic(auto)]
+
 ghost use Rattle.std.specs.Prelude.{◌≡◌, ◌⊎◌, ◌&&◌, ◌<◌, eqb, length};
 ghost use Rattle.space.specs.between.Working.{Close};
 ghost use Rattle.facet_hints.specs.between.Hints.{hint_places};
@@ -20,7 +22,7 @@ const LONG: usize = 96;
 const NONE: usize = 65536;
 
 // Two rows that have every vertex which can come at a place.
-#[derive(Drop)]
+#[derive(Clone, Copy)]
 pub struct TwoRows {
     pub one: Row,
     pub two: Row,

@@ -1,6 +1,8 @@
 // When a tuple of corners is a cell of a mesh: conditions 1 to 4.
 // A tuple is the vertices of its corners, in letter order;
 // the template is lent as flat tables of corners (a to h are 0 to 7).
+#![tactic(auto)]
+
 ghost use Rattle.std.specs.Prelude.{◌≡◌, ◌/◌, ◌<◌, ltb, length};
 ghost use Rattle.base.specs.Lists.{all};
 ghost use Rattle.space.specs.Box.{is_above0};

@@ -9,6 +9,8 @@
 //
 // What is listed is the promise of `listing::portion`, and what a line says that of `lines`; here stand only the calls
 // and the writing. A write that fails ends a listing at once, so that no last line follows a cell that was lost.
+#![tactic(auto)]
+
 ghost use Rattle.std.specs.Prelude.{◌*◌, ◌/◌, ◌≤◌, ◌≡◌, length};
 ghost use Rattle.record.specs.Entries.{record_size};
 
@@ -67,7 +69,7 @@ fn show_cells(out: &mut [u8], records: &[u16], count: usize) -> bool
 // ---- the listing
 
 // What is left to do after a call of the library: another call from a mark on, with this many cells done, or nothing.
-#[derive(Drop)]
+#[derive(Clone, Copy)]
 enum Step {
     More(Mark, u64),
     Done,
@@ -227,7 +229,7 @@ fn list_from(text: &mut [u8], file: &[u8], from: Mark, room: u64)
 // ---- arguments
 
 // What a word says: a number, or nothing that is one.
-#[derive(Drop)]
+#[derive(Clone, Copy)]
 enum Word {
     Number(u64),
     Bad,

@@ -1,4 +1,6 @@
 // Conditions 5 and 6 over a list of tetrahedra: whether they fill a cell, and whether they are of one part.
+#![tactic(auto)]
+
 ghost use Rattle.std.specs.Prelude.{◌≡◌, true, [], ◌∷◌, ◌*◌, ◌/◌, ◌<◌, eqb, length, get_or};
 ghost use Rattle.base.specs.Lists.{all};
 ghost use Rattle.space.specs.Arrays.{row4};

@@ -1,4 +1,6 @@
 // The two parts of a mesh file read into arrays that the caller lends, and the bounds on coordinates (refusal 4).
+#![tactic(auto)]
+
 ghost use Rattle.std.specs.Prelude.{◌≡◌, ◌+◌, ◌*◌, ◌≤◌, ◌<◌, length};
 ghost use Rattle.base.specs.Lists.{all};
 ghost use Rattle.space.specs.Box.{near};

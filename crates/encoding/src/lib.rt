@@ -1,4 +1,6 @@
 // Makes the bytes of a mesh file from lists of coordinates, vertex numbers and parts: what `decoding` reads, written.
+#![tactic(auto)]
+
 ghost use Rattle.std.specs.Prelude.{◌≡◌, ◌+◌, ◌*◌, ◌/◌, ◌%◌, ◌≤◌, ◌<◌, length};
 ghost use Rattle.base.specs.Laid.{Laid};
 ghost use Rattle.encoding.specs.File.{u16_bytes, u32_bytes, bits_of, file_size, header_bytes, tet_bytes, coord_bytes, tets_bytes, file_of};

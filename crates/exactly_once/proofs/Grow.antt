@@ -21,6 +21,7 @@ use Rattle.least.proofs.OneLeast.{pairwise, keep-none}
 
 module _ {A B : Type 0} where
   pub mem_map : (f : A → B) (xs : List A) {y : B} → Memᴰ y (map f xs) → (x : A) × Memᴰ x xs × (y ≡ f x)
+  mem_map f [] {y = y} x' = elim x' [ ]
   mem_map f (x ∷ xs) (Memᴰ.head q) = (x, Memᴰ.head refl, q)
   mem_map f (x ∷ xs) (Memᴰ.tail h) = let w = mem_map f xs h in (w.0, Memᴰ.tail w.1, w.2)
 
@@ -36,6 +37,7 @@ module _ {A B : Type 0} where
   -- the results at one element, where there are none at the others
   pub spread-only : (f : A → List B) (g : A → A → Bool) (xs : List A) → pairwise g xs ≡ true → {x : A} → Memᴰ x xs → ((y : A) → Memᴰ y xs → (g x y ≡ true) ⊎ (g y x ≡ true) → f y ≡ []) → spread f xs ≡ f x
   unfolding spread pairwise
+  spread-only f g [] e {x = x} x5 n = elim x5 [ ]
   spread-only f g (y ∷ ys) e (Memᴰ.head q) n =
       ap₂ (λ a b. a ++ b) (ap f (sym q)) (none ys (λ z h. n z (Memᴰ.tail h) (inl (ap (λ w. g w z) q ∙ all-at (g y) ys (both_left _ _ e) h))))
       ∙ append-nil _
@@ -59,6 +61,7 @@ module _ {A : Type 0} (p : A → Bool) where
 
   pub keep_mem : (xs : List A) {x : A} → Memᴰ x xs → p x ≡ true → Memᴰ x (keep p xs)
   unfolding keep
+  keep_mem [] {x = x} x4 e = elim x4 [ ]
   keep_mem (y ∷ ys) (Memᴰ.head q) e = rw (ap p (sym q) ∙ e) (Memᴰ.head q)
   keep_mem (y ∷ ys) {x} (Memᴰ.tail h) e = go (p y) (keep_mem ys h e)
     where
@@ -79,6 +82,7 @@ differ : ℕ → ℕ → Bool
 differ x y = not (eqb x y)
 
 from_above : (i k j : ℕ) → Memᴰ j (from i k) → i ≤ j
+from_above i zero j x' = elim x' [ ]
 from_above i (suc k) j (Memᴰ.head q) = omega arith
 from_above i (suc k) j (Memᴰ.tail h) = let e = from_above (suc i) k j h in omega arith
 

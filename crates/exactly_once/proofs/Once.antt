@@ -89,6 +89,7 @@ at_place p s v u k l e =
     ∙ all_same _ _ p.below (λ j h. ap₂ ltb (get_or-append s (v ∷ u) 0 j (omega (arith, ltb-true j k (all-at (λ k'. ltb k' k) p.below e h)))) (ap (λ k. get_or (s ++ (v ∷ u)) k 0) (sym l) ∙ get_or-append_seam s v u 0))
 
 map_mem : {A B : Type 0} (f : A → B) (xs : List A) {x : A} → Memᴰ x xs → Memᴰ (f x) (map f xs)
+map_mem {A = A} {B = B} f [] x3 = elim x3 [ ]
 map_mem f (y ∷ ys) (Memᴰ.head q) = Memᴰ.head (ap f q)
 map_mem f (y ∷ ys) (Memᴰ.tail h) = Memᴰ.tail (map_mem f ys h)
 

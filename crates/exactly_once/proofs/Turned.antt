@@ -68,12 +68,14 @@ module _ (m : Mesh) (c a : List ℕ) where
   unfolding box_at v
   even_box p (Memᴰ.head q) = ap by (sym q)
   even_box p (Memᴰ.tail (Memᴰ.head q)) = on (v 0) (v 1) (v 2) (v 3) ∙ ap by (sym q)
+  even_box p (Memᴰ.tail (Memᴰ.tail (Memᴰ.tail x12))) = elim x12 [ ]
   even_box p (Memᴰ.tail (Memᴰ.tail (Memᴰ.head q))) = on (v 0) (v 1) (v 2) (v 3) ∙ on (v 0) (v 2) (v 3) (v 1) ∙ ap by (sym q)
 
   odd-box : (p : List ℕ) → Memᴰ p odd → by (0 ∷ 1 ∷ 2 ∷ 3 ∷ []) ≡ neg_ℤ (by p)
   unfolding box_at v
   odd-box p (Memᴰ.head q) = swap (v 0) (v 1) (v 2) (v 3) ∙ ap (λ p. neg_ℤ (by p)) (sym q)
   odd-box p (Memᴰ.tail (Memᴰ.head q)) = swap (v 0) (v 1) (v 2) (v 3) ∙ ap neg_ℤ (on (v 0) (v 2) (v 1) (v 3) ∙ ap by (sym q))
+  odd-box p (Memᴰ.tail (Memᴰ.tail (Memᴰ.tail x12))) = elim x12 [ ]
   odd-box p (Memᴰ.tail (Memᴰ.tail (Memᴰ.head q))) = swap (v 0) (v 1) (v 2) (v 3) ∙ ap neg_ℤ (on (v 0) (v 2) (v 1) (v 3) ∙ on (v 0) (v 1) (v 3) (v 2) ∙ ap by (sym q))
 
 module _ (r c : List ℕ) (m : Mesh) (ks js : List ℕ) where

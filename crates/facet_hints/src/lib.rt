@@ -1,5 +1,7 @@
 // Hints of facets, by which most vertices that cannot go on a tuple are told at once:
 // a table in which three vertices have one place.
+#![tactic(auto)]
+
 ghost use Rattle.std.specs.Prelude.{◌≡◌, ◌/◌, ◌<◌, [], ◌∷◌, length};
 ghost use Rattle.base.specs.Lists.{all};
 ghost use Rattle.space.specs.Arrays.{row4};

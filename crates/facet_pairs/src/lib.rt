@@ -1,4 +1,6 @@
 // The tetrahedra at a facet, at most two of them in a sound mesh: a table in which three vertices have one place.
+#![tactic(auto)]
+
 ghost use Rattle.std.specs.Prelude.{◌≡◌, true, [], ◌∷◌, ◌≤◌, ◌<◌, length};
 ghost use Rattle.base.specs.Lists.{distinct};
 ghost use Rattle.facet_pairs.specs.between.Pairs.{pair_place, PairsOf, Names, Puts, OfFacet, AtFacets};
@@ -69,7 +71,7 @@ pub fn put_all(labels: &[u16], pairs: &mut [u16])
 
 // What stands at a place: each of the two is a tetrahedron's number plus one, or 0.
 // Where there are many, they say nothing.
-#[derive(Drop)]
+#[derive(Clone, Copy)]
 pub struct Pair {
     pub many: bool,
     pub one: u16,

@@ -1,4 +1,6 @@
 // What is asked of the tetrahedra that share a facet: refusals 8 and 9, over the working arrays with their index.
+#![tactic(auto)]
+
 ghost use Rattle.std.specs.Prelude.{◌≡◌, [], ◌∷◌, true, ◌/◌, ◌<◌, length};
 ghost use Rattle.base.specs.Lists.{any, distinct};
 ghost use Rattle.space.specs.Arrays.{row4};
@@ -15,7 +17,7 @@ use tets::{box_in, corners};
 use tets_around::{around_row, rarest, sharing};
 
 // A facet a, b, c of the tetrahedron e, and its fourth vertex u.
-#[derive(Drop)]
+#[derive(Clone, Copy)]
 struct Facet {
     e: Tet,
     u: Vertex,

@@ -1,5 +1,7 @@
 // Where conditions 1 to 4 fail first, of a kind and eight numbers: the place of a corner, or a row of the template's
 // table; how many there are where none fails. A kind other than 8 and 6 counts as 5.
+#![tactic(auto)]
+
 ghost use Rattle.std.specs.Prelude.{◌≡◌, ◌≤◌, ◌<◌, length};
 ghost use Rattle.base.specs.Lists.{up_to};
 ghost use Rattle.space.specs.Box.{is_above0};

@@ -91,6 +91,7 @@ most-low {t} h = leb-true (most t) 25 (all-at (λ t. leb (most t) 25) templates 
 known_by : {t : Template} → Memᴰ t templates → template_of t.kind ≡ t
 known_by (Memᴰ.head q) = ap (λ u. template_of u.kind) q ∙ sym q
 known_by (Memᴰ.tail (Memᴰ.head q)) = ap (λ u. template_of u.kind) q ∙ sym q
+known_by {t = t} (Memᴰ.tail (Memᴰ.tail (Memᴰ.tail x12))) = elim x12 [ ]
 known_by (Memᴰ.tail (Memᴰ.tail (Memᴰ.head q))) = ap (λ u. template_of u.kind) q ∙ sym q
 
 -- ---- what condition 5 permits, where g counts of how many tetrahedra a triple of corners is a facet

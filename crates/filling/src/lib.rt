@@ -1,4 +1,6 @@
 // Which tetrahedra a cell has, found around its corners.
+#![tactic(auto)]
+
 ghost use Rattle.std.specs.Prelude.{◌≡◌, ◌/◌, ◌≤◌, ◌<◌, length, get_or, set, replicate};
 ghost use Rattle.base.specs.Lists.{is_in};
 ghost use Rattle.space.specs.between.Working.{around};
@@ -16,7 +18,7 @@ use space::{Tet, Vertex};
 use tets_around::around_row;
 
 // How many tetrahedra a cell has, and the numbers of the first, as many as a record has places for, rising.
-#[derive(Drop)]
+#[derive(Clone, Copy)]
 pub struct Tets {
     pub count: usize,
     pub list: [u16; TET_PLACES],
@@ -40,14 +42,14 @@ fn push(f: Tets, e: Tet) -> Tets
 
 // What was seen in a row: the least, and the place that the row is read up to.
 // No tetrahedron before that place is asked for again.
-#[derive(Drop)]
+#[derive(Clone, Copy)]
 struct RowRead {
     least: usize,
     at: usize,
 }
 
 // What is asked of a row: from which place on, and between which two numbers.
-#[derive(Drop)]
+#[derive(Clone, Copy)]
 struct Span {
     from: usize,
     lo: usize,
@@ -77,7 +79,7 @@ fn least_in(labels: &[u16], row: &[u16], s: Span, m: &[u8; 512], c: &[u16], quad
 }
 
 // The corners of one quadrilateral of a cell, and how many tetrahedra they have.
-#[derive(Drop)]
+#[derive(Clone, Copy)]
 struct Crowd {
     a: Vertex,
     b: Vertex,

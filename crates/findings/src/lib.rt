@@ -1,5 +1,7 @@
 // What is found of a tuple of a mesh in arrays: that it is a cell, or the first condition that fails and where. The same
 // by numbers.
+#![tactic(auto)]
+
 ghost use Rattle.std.specs.Prelude.{◌≡◌, true, List, ℕ, ◌/◌, ◌≤◌, length};
 ghost use Rattle.base.specs.Lists.{distinct};
 ghost use Rattle.space.specs.Arrays.{mesh_of};

@@ -1,4 +1,6 @@
 // The first cell after a mark, over the three kinds, and whether any is left.
+#![tactic(auto)]
+
 ghost use Rattle.std.specs.Prelude.{◌≡◌, false, ◌∷◌, ◌+◌, ◌<◌, get_or};
 ghost use Rattle.base.specs.Lists.{pad};
 ghost use Rattle.space.specs.Arrays.{mesh_of};
@@ -19,7 +21,7 @@ use search::next_tuple;
 use verdict::no_tets;
 
 // The mark of the cell that was found, and its tetrahedra.
-#[derive(Drop)]
+#[derive(Clone, Copy)]
 pub struct NextCell {
     pub found: bool,
     pub mark: Mark,

@@ -1,5 +1,7 @@
 // Hunting for the next vertex by the look-ahead's aim: at a place whose joined corners have many neighbours, which
 // vertices can follow there is told by the faces to come. x is the row of a place in the tables of the levels.
+#![tactic(auto)]
+
 ghost use Rattle.std.specs.Prelude.{◌≡◌, true, false, ◌<◌, ◌≤◌, eqb, length};
 ghost use Rattle.space.specs.between.Working.{Close};
 ghost use Rattle.facet_hints.specs.between.Hints.{hint_places};

@@ -1,4 +1,6 @@
 // Lists read from the text on standard input, piece by piece. What a text says is the promise of `reading_lists`.
+#![tactic(auto)]
+
 use libc::STDIN_FILENO;
 use reading_lists::{Said, begin, feed, finish};
 

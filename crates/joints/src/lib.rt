@@ -1,12 +1,14 @@
 // Two tetrahedra with a facet in common, and the pyramids that they may be, from the labels alone: a guess, which is
 // tested elsewhere.
+#![tactic(auto)]
+
 ghost use Rattle.std.specs.Prelude.{◌≡◌, ◌/◌, ◌<◌, ◌≤◌, length};
 ghost use Rattle.joints.specs.between.Joints.{no_joint, lone_of, lesser_first, least_first, across_of, joint_of, pyramid_of};
 
 use space::{Tet, Vertex, tet_has};
 
 // Two tetrahedra with a facet in common, where there is one: its vertices x, y, z, and u and w on either side.
-#[derive(Drop)]
+#[derive(Clone, Copy)]
 pub struct Joint {
     pub some: bool,
     pub u: Vertex,

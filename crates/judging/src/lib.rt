@@ -1,4 +1,6 @@
 // Conditions 5 and 6 of a tuple whose tetrahedra were found: the first that fails.
+#![tactic(auto)]
+
 ghost use Rattle.std.specs.Prelude.{◌≡◌, ◌*◌, ◌/◌, ◌≤◌, length};
 ghost use Rattle.tets_around.specs.between.Build.{Within};
 ghost use Rattle.cells.specs.between.Rows.{own_numbers_by};

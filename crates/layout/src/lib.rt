@@ -1,4 +1,6 @@
 // A mesh file's bytes as numbers, and what is asked of the header (refusals 1 to 3).
+#![tactic(auto)]
+
 ghost use Rattle.std.specs.Prelude.{◌≡◌, ◌+◌, ◌*◌, ◌≤◌, ◌<◌, length};
 ghost use Rattle.layout.specs.Bytes.{u16_at, u32_at, i32_at};
 ghost use Rattle.layout.specs.Layout.{vertices, tets, length_right, counts_right, layout_right};

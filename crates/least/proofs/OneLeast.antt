@@ -111,6 +111,7 @@ module _ {A : Type 0} where
 
   pub keep_one : (p : A → Bool) (f : A → A → Bool) → ((x y : A) → f x y ≡ true → p x ≡ true → p y ≡ true → ⊥) → (xs : List A) → pairwise f xs ≡ true → {x : A} → Memᴰ x xs → p x ≡ true → keep p xs ≡ x ∷ []
   unfolding keep pairwise
+  keep_one p f n [] e x5 h = elim x5 [ ]
   keep_one p f n (y ∷ ys) e (Memᴰ.head {x = x} q) h =
       let g : p y ≡ true = ap p (sym q) ∙ h in
       rw g (ap₂ (λ z zs. z ∷ zs) (sym q) (keep-none p ys (λ z k w. n y z (all-at (f y) ys (both_left _ _ e) k) g w)))

@@ -1,4 +1,6 @@
 // Least form: the one of a tuple's turns that is listed.
+#![tactic(auto)]
+
 mod tables;
 
 ghost use Rattle.std.specs.Prelude.{◌≡◌, ◌/◌, ◌≤◌, ◌<◌, length};

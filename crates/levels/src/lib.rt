@@ -2,6 +2,8 @@
 // as rows of constant tables.
 // A tuple is kept in search order; x is the row of a place, and the tables are lent as one slice,
 // since each mention of a constant table makes it anew.
+#![tactic(auto)]
+
 mod rows;
 
 ghost use Rattle.std.specs.Prelude.{◌≡◌, ◌+◌, ◌<◌, ◌≤◌, ltb, length, get_or};
@@ -19,7 +21,7 @@ use space::Vertex;
 use templates::is_in;
 
 // A place of a tuple: the tuple, in search order, the row of the tables of the levels, and which place it is.
-#[derive(Drop)]
+#[derive(Clone, Copy)]
 pub struct Place {
     pub tuple: [u16; 8],
     pub row: usize,

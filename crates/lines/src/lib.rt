@@ -1,4 +1,6 @@
 // The lines of a listing as text, put into a lent slice.
+#![tactic(auto)]
+
 ghost use Rattle.std.specs.Prelude.{◌≡◌, ◌+◌, ◌*◌, ◌≤◌, min, length};
 ghost use Rattle.base.specs.Laid.{Laid};
 ghost use Rattle.record.specs.Entries.{record_size};

@@ -1,4 +1,6 @@
 // The vertices that link the two ends of a face's three known corners: none, a single one, a pair, or more.
+#![tactic(auto)]
+
 ghost use Rattle.std.specs.Prelude.{◌≡◌, ◌⊎◌, true, length};
 ghost use Rattle.facet_hints.specs.between.Hints.{hinted};
 ghost use Rattle.neighbours.specs.between.Reading.{Rowed};
@@ -13,7 +15,7 @@ use space::Vertex;
 // The linking vertices that were met: whether there are some, whether it is a single one, vertex, or a pair, vertex and
 // other. Of more, vertex is one with the most neighbours, or none, which is 65535. The choice is a matter of speed
 // alone.
-#[derive(Drop)]
+#[derive(Clone, Copy)]
 pub struct Linking {
     pub some: bool,
     pub single: bool,

@@ -69,6 +69,7 @@ at_at s ps (k ∷ ks) e = rw (at_place s ps k (ltb-true k (length ps) (both_left
 
 one_of : {y a b : ℕ} → Memᴰ y (a ∷ b ∷ []) → (y ≡ a) ⊎ (y ≡ b)
 one_of (Memᴰ.head e) = inl e
+one_of {y = y} {a = a} {b = b} (Memᴰ.tail (Memᴰ.tail x8)) = elim x8 [ ]
 one_of (Memᴰ.tail (Memᴰ.head e)) = inr e
 
 clash : {y q a : ℕ} → (y ≡ 3) ⊎ (y ≡ a) → (q ≡ 2) ⊎ (q ≡ 4) → 4 < a → (y ≡ q → ⊥)
@@ -268,6 +269,7 @@ module _ (zs : List ℤ) (ls ps : List ℕ) (k : ℕ) (s : List ℕ) (leaf : is_
         (λ f. closes_by x l p p (omega arith) h f f)
       where
         only_of : {y a : ℕ} → Memᴰ y (a ∷ []) → y ≡ a
+        only_of {y = y} {a = a} (Memᴰ.tail x5) = elim x5 [ ]
         only_of (Memᴰ.head e) = e
 
         apart : {y q : ℕ} → (y ≡ 2) ⊎ (y ≡ 3) → q ≡ 4 → (y ≡ q → ⊥)

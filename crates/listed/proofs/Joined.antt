@@ -39,6 +39,7 @@ together_swap m u v = ap (λ p. any p m.tets) (fun_ext same)
 
 -- what is not in a list differs from each of its elements
 apart : (x : ℕ) (xs : List ℕ) → is_in x xs ≡ false → {y : ℕ} → Memᴰ y xs → (y ≡ x → ⊥)
+apart x [] e {y = y} x4 p = elim x4 [ ]
 apart x (z ∷ zs) e {y} (Memᴰ.head q) p = go (eqb x z) refl e
   where
     go : (b : Bool) → eqb x z ≡ b → (b || is_in x zs) ≡ false → ⊥

@@ -1,4 +1,6 @@
 // The listing of a mesh file's cells: one portion at a time, from any mark on.
+#![tactic(auto)]
+
 ghost use Rattle.std.specs.Prelude.{◌≡◌, ◌*◌, ◌<◌, ◌≤◌, length};
 ghost use Rattle.layout.specs.between.Framed.{Framed};
 ghost use Rattle.arrays.specs.between.Headed.{headed};

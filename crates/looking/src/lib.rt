@@ -2,6 +2,8 @@
 // face or the corner triple that is told; of how many tetrahedra a face's triangles are facets; the size of a box; two
 // parts. These are numbers for the program's words. The counts at the cell's triples are promised (`open_faces`), and the
 // box (`space`); that they are those of the row that is told is tested.
+#![tactic(auto)]
+
 ghost use Rattle.std.specs.Prelude.{◌*◌, ◌/◌, ◌≤◌, ◌<◌, ◌≡◌, length};
 ghost use Rattle.layout.specs.between.Framed.{Framed};
 
@@ -15,7 +17,7 @@ use view::Located;
 use writing_lists::size_of;
 
 // A tuple of a kind, and what was found of it.
-#[derive(Drop)]
+#[derive(Clone, Copy)]
 pub struct Asked {
     pub kind: u16,
     pub tuple: [u16; 8],
@@ -25,7 +27,7 @@ pub struct Asked {
 // ---- where the row that is told stands
 
 // Where it begins in the tables of all kinds, and how many corners it has.
-#[derive(Drop)]
+#[derive(Clone, Copy)]
 struct Spot {
     at: usize,
     width: usize,
@@ -136,7 +138,7 @@ fn box_at(file: &[u8], n: usize, t: usize, tuple: &[u16; 8], p: [u8; 4]) -> u64 
 // ---- all of it
 
 // What was seen: the line of the mesh, of the row that is told and of its counts; the size of the box.
-#[derive(Drop)]
+#[derive(Clone, Copy)]
 pub struct Seen {
     pub line: [u16; 10],
     pub box_size: u64,

@@ -1,5 +1,7 @@
 // Which vertices stand together in a tetrahedron: a matrix of 512 times 512 places,
 // from the vertex numbers of the tetrahedra.
+#![tactic(auto)]
+
 ghost use Rattle.std.specs.Prelude.{◌≡◌, true, ℕ, ◌+◌, ◌/◌, ◌<◌, ◌≤◌, length, get_or};
 ghost use Rattle.matrix.specs.between.Matrix.{joined_by, is_joined, AddsJoins, one_pair, row_pairs, tet_pairs, next_to, Blank};
 

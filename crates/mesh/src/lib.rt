@@ -1,4 +1,6 @@
 // The check of a mesh file, refusals 1 to 9, and the view over an accepted file's own bytes. Knows nothing of cells.
+#![tactic(auto)]
+
 ghost use Rattle.std.specs.Prelude.{◌≡◌};
 ghost use Rattle.layout.specs.between.Framed.{Framed};
 ghost use Rattle.arrays.specs.Refusals.{checked, refusal};
@@ -68,7 +70,7 @@ pub fn refusal_of(file: &[u8]) -> u8
 // ---- the view
 
 // The counts of a file: those of its header where it is accepted, else none.
-#[derive(Drop)]
+#[derive(Clone, Copy)]
 pub struct Sizes {
     pub n: usize,
     pub t: usize,
@@ -89,7 +91,7 @@ pub fn counts_of(file: &[u8]) -> Sizes
 }
 
 // The view over a file's own bytes.
-#[derive(Drop)]
+#[derive(Clone, Copy)]
 pub struct View<'a> {
     pub file: &'a [u8],
     pub n: usize,

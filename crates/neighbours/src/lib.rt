@@ -1,4 +1,6 @@
 // The neighbour table of a mesh, from the vertex numbers of its tetrahedra, written into a lent slice.
+#![tactic(auto)]
+
 ghost use Rattle.std.specs.Prelude.{◌≡◌, cond, ◌+◌, ◌<◌, ◌≤◌, length};
 ghost use Rattle.tets_around.specs.between.Index.{Labelled};
 ghost use Rattle.rooms.specs.between.Rooms.{filled_by, laid_by};

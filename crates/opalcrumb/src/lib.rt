@@ -1,6 +1,8 @@
 // The library for programs in C and Rust: each function under its plain name, over numbers, slices and small arrays.
 // A slice is a pointer and then a length. Every function answers 0, or the number of a refusal; what a refusal leaves
 // unchanged is said at each.
+#![tactic(auto)]
+
 ghost use Rattle.std.specs.Prelude.{◌≡◌, length};
 ghost use Rattle.space.specs.Box.{box_number};
 ghost use Rattle.arrays.specs.Refusals.{refusal};

@@ -1,5 +1,7 @@
 // The faces at which condition 5 fails. All tetrahedra of the mesh are looked at for each triple, so that a tuple may
 // have any number of them. The cell is lent by its corners and its quadrilaterals.
+#![tactic(auto)]
+
 ghost use Rattle.std.specs.Prelude.{◌≡◌, cond, ◌&&◌, [], ◌∷◌, ◌/◌, ◌≤◌, ◌<◌, length};
 ghost use Rattle.base.specs.Lists.{all};
 ghost use Rattle.space.specs.Arrays.{row4};

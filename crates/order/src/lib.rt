@@ -1,4 +1,6 @@
 // Letter order and search order: a cell's corners are told in the one, and a search goes by the other.
+#![tactic(auto)]
+
 ghost use Rattle.std.specs.Prelude.{◌≡◌, cond, ◌≤◌, eqb};
 ghost use Rattle.base.specs.Lists.{pad};
 ghost use Rattle.templates.specs.Tables.{prism, pyramid, template_of, at};

@@ -1,4 +1,6 @@
 // Lines on standard output and on standard error. A line is put into a lent text of 65,536 bytes first.
+#![tactic(auto)]
+
 ghost use Rattle.std.specs.Prelude.{◌+◌, ◌≤◌, ◌≡◌, length};
 
 use libc::{STDERR_FILENO, STDOUT_FILENO};

@@ -1,4 +1,6 @@
 // Whether a tetrahedron is one of a cell's, and a table of stamps by which most that are not are told soonest.
+#![tactic(auto)]
+
 ghost use Rattle.std.specs.Prelude.{◌≡◌, ◌/◌, ◌<◌, length};
 ghost use Rattle.base.specs.Lists.{all, any, is_in};
 ghost use Rattle.space.specs.Arrays.{row4};

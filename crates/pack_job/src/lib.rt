@@ -5,6 +5,8 @@
 // Where there is no file, nothing is written there, and a line on standard error says why: `refused` with its number,
 // or `wrong` with a text's fault, its line, how many numbers stand before it and how many are wanted; or `lost`, where
 // the file could not be written.
+#![tactic(auto)]
+
 ghost use Rattle.std.specs.Prelude.{◌≡◌, length};
 ghost use Rattle.packing_front.specs.between.Roomy.{Roomy};
 

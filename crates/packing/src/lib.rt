@@ -1,5 +1,7 @@
 // Packs lists of coordinates, vertex numbers and parts into a mesh file, in a room that the caller lends. The file is
 // made in an array of the greatest length and checked there; the room is touched only where the file is right and fits.
+#![tactic(auto)]
+
 ghost use Rattle.std.specs.Prelude.{◌≡◌, ◌+◌, ◌*◌, length, ltb};
 ghost use Rattle.encoding.specs.File.{file_of};
 ghost use Rattle.encoding.specs.between.Measured.{Measured};
@@ -7,7 +9,7 @@ ghost use Rattle.packing.specs.Packed.{lengths_fit, packed, room_after};
 ghost use Rattle.packing.specs.between.Stored.{stored_in};
 
 // The length of the file that was written, or the number of the refusal.
-#[derive(Drop)]
+#[derive(Clone, Copy)]
 pub enum Written {
     Whole(usize),
     Refused(u8),
@@ -56,7 +58,7 @@ fn store(file: &[u8], room: &mut [u8]) -> Written
     if room.len() < file.len() {
         return Written::Refused(15);
     }
-    bytes::copy(file, room);
+    room[..file.len()].copy_from_slice(file);
     Written::Whole(file.len())
 }
 

@@ -1,5 +1,7 @@
 // Packs lists of which the caller may hold only the front. Lists that do not fit the caller's arrays make a file that
 // is too long, and are refused for their length alone, whatever they say: so the answer is that of the whole lists.
+#![tactic(auto)]
+
 ghost use Rattle.std.specs.Prelude.{◌≡◌, List, ℕ, min, ℤ, length};
 ghost use Rattle.encoding.specs.File.{file_of};
 ghost use Rattle.packing.specs.Packed.{packed, room_after};

@@ -1,5 +1,7 @@
 // The portion of a mesh in arrays: refusals 10 and 11, the neighbour table, the hints of the facets,
 // and the records of the cells after a mark.
+#![tactic(auto)]
+
 ghost use Rattle.std.specs.Prelude.{◌≡◌, [], leb, length};
 ghost use Rattle.space.specs.Arrays.{mesh_of};
 ghost use Rattle.tets_around.specs.between.Arrays.{Arrays};

@@ -2,6 +2,8 @@
 // a pyramid of the last or the first tetrahedron and one beside it tells it without a search.
 // Which are tried is a matter of speed alone:
 // at one end of the file the vertices mostly have great numbers, and so the pyramids come late in the list.
+#![tactic(auto)]
+
 ghost use Rattle.std.specs.Prelude.{◌≡◌, true, ◌/◌, ◌<◌, length};
 ghost use Rattle.space.specs.Arrays.{mesh_of};
 ghost use Rattle.tets_around.specs.between.Build.{Within};

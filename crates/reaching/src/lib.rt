@@ -2,6 +2,8 @@
 // which vertices can be reached over an edge of it.
 // What is gone through is the row, in the neighbour table, of the one of two vertices that has fewer neighbours;
 // facets are told by their hints.
+#![tactic(auto)]
+
 ghost use Rattle.std.specs.Prelude.{◌≡◌, ◌⊎◌, true, ◌≤◌, length};
 ghost use Rattle.facet_hints.specs.between.Hints.{hint_places, hinted};
 ghost use Rattle.neighbours.specs.between.Reading.{Rowed};
@@ -17,7 +19,7 @@ pub const MANY: usize = 48;
 
 // An edge of a face, from w to u, that the next corner follows;
 // and the vertices that may not link that corner and w at u: those below the floor, o, p and q.
-#[derive(Drop)]
+#[derive(Clone, Copy)]
 pub struct FaceEdge {
     pub u: Vertex,
     pub w: Vertex,

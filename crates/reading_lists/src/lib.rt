@@ -1,5 +1,7 @@
 // Lists of a mesh read from plain text, byte by byte: a text of any length takes no room of its own. What is read goes
 // into lists that the caller lends; what has no place there is left out.
+#![tactic(auto)]
+
 ghost use Rattle.std.specs.Prelude.{◌≡◌, ◌≤◌, set};
 ghost use Rattle.reading_words.specs.declared.Spot.TheVariants.{Coordinate};
 ghost use Rattle.reading_words.specs.Steps.{spot_of, most, word_fault, begun};
@@ -9,7 +11,7 @@ use reading_words::{Reader, Spot, ends_number, next, spot_of, wanted};
 
 // What a text says: lists of n vertices and t tetrahedra; or a fault, its line, how many numbers stand before it, and
 // how many are wanted.
-#[derive(Drop)]
+#[derive(Clone, Copy)]
 pub enum Said {
     Lists {
         n: u32,

@@ -1,4 +1,6 @@
 // The words of a text of lists, read byte by byte: whether each is a number in its place.
+#![tactic(auto)]
+
 ghost use Rattle.std.specs.Prelude.{◌≡◌, cond, ◌||◌, eqb};
 ghost use Rattle.reading_words.specs.Words.{is_blank, ends_word, is_digit, formed, sized};
 ghost use Rattle.reading_words.specs.Steps.{wanted, tet_spot, spot_of, most, range_fault, word_fault, grown, counted, closed};
@@ -6,7 +8,7 @@ ghost use Rattle.reading_words.specs.Steps.{line_behind, comment_behind, passed,
 
 // How far a text is read: the line; whether it stands in a comment; of the word that has begun its form, its sign and
 // what its digits say; how many numbers came before it, the first two of them, and the fault that was met, if any.
-#[derive(Drop)]
+#[derive(Clone, Copy)]
 pub struct Reader {
     pub line: u64,
     pub comment: bool,
@@ -20,7 +22,7 @@ pub struct Reader {
 }
 
 // Where a number belongs: it is a count, or an entry of one of the lists, or none is wanted any more.
-#[derive(Drop)]
+#[derive(Clone, Copy)]
 pub enum Spot {
     Count,
     Coordinate(u64),

@@ -44,6 +44,7 @@ inside_three t ks h = corner3_three t.corners ks (keep_at _ _ h).0
 -- the triangles of a diagonal
 pair_three : (x y : List ℕ) → length x ≡ 3 → length y ≡ 3 → (ks : List ℕ) → Memᴰ ks (x ∷ y ∷ []) → length ks ≡ 3
 pair_three x y a b ks (mathlib.Core.List.Memᴰ.head q) = ap length q ∙ a
+pair_three x y a b ks (Memᴰ.tail (Memᴰ.tail x9)) = elim x9 [ ]
 pair_three x y a b ks (mathlib.Core.List.Memᴰ.tail (mathlib.Core.List.Memᴰ.head q)) = ap length q ∙ b
 
 diagonal_three : (b : Bool) (q ks : List ℕ) → Memᴰ ks (cond b (other_diagonal q) (one_diagonal q)) → length ks ≡ 3

@@ -1,4 +1,6 @@
 // The record of a cell and the mark that a listing stands at: how many entries there are, and where each stands.
+#![tactic(auto)]
+
 ghost use Rattle.std.specs.Prelude.{◌≡◌, ◌+◌, ◌*◌, ◌≤◌, length, take};
 ghost use Rattle.base.specs.Lists.{pad};
 ghost use Rattle.base.specs.Laid.{Laid};
@@ -23,7 +25,7 @@ pub const SIZE: usize = TETS_AT + TET_PLACES;
 pub const UNUSED: u16 = 65535;
 
 // Where a listing stands: behind the cell of this kind with these corners, 0 where the kind has none.
-#[derive(Drop)]
+#[derive(Clone, Copy)]
 pub struct Mark {
     pub kind: u16,
     pub a: u16,

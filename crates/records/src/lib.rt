@@ -1,4 +1,6 @@
 // The loop that writes the records of the cells after a mark into a lent room.
+#![tactic(auto)]
+
 ghost use Rattle.std.specs.Prelude.{◌≡◌, ◌/◌, ◌≤◌, length};
 ghost use Rattle.space.specs.Arrays.{mesh_of};
 ghost use Rattle.record.specs.Entries.{record_size};
@@ -13,7 +15,7 @@ use record::{Mark, SIZE, TET_PLACES, end_mark, put_record};
 
 // A refusal by its number, with how many records were written before it:
 // only 12, where the next cell has more tetrahedra than a record can hold, comes after any.
-#[derive(Drop)]
+#[derive(Clone, Copy)]
 pub enum Answer {
     Refused {
         number: u8,
@@ -34,7 +36,7 @@ fn refused(number: u8, written: usize) -> Answer
 
 // How far the records came, and how many there are: the room is full, no cell is left,
 // or the next one is too long for a record.
-#[derive(Drop)]
+#[derive(Clone, Copy)]
 pub enum Stopped {
     Full { count: usize, mark: Mark },
     Ended { count: usize },

@@ -1,10 +1,12 @@
 // Lists written into a lent room, and what is answered where the room is too short.
+#![tactic(auto)]
+
 ghost use Rattle.std.specs.Prelude.{◌≡◌, ◌++◌, cond, ◌+◌, ◌≤◌, length};
 ghost use Rattle.base.specs.Laid.{Laid};
 ghost use Rattle.rooms.specs.between.Rooms.{filled_by, laid_by};
 
 // How many entries were wanted, where there is room for them.
-#[derive(Drop)]
+#[derive(Clone, Copy)]
 pub enum Filled {
     Entries(usize),
     Short,

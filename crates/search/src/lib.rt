@@ -1,6 +1,8 @@
 // The search for the next cell of a kind: the least tuple after a tuple that is a cell in least form,
 // by an odometer over one tuple with a level.
 // x is the row of a place in the tables of the levels.
+#![tactic(auto)]
+
 ghost use Rattle.std.specs.Prelude.{◌≡◌, true, false, List, ℕ, ◌/◌, ◌<◌, ◌≤◌, length};
 ghost use Rattle.space.specs.Arrays.{mesh_of};
 ghost use Rattle.templates.specs.Tables.{template_of};
@@ -23,7 +25,7 @@ use space::Vertex;
 use verdict::{is_leaf, no_tets};
 
 // The tuple that was found, in search order, and the tetrahedra of its cell.
-#[derive(Drop)]
+#[derive(Clone, Copy)]
 pub struct FoundTuple {
     pub found: bool,
     pub tuple: [u16; 8],

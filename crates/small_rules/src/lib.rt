@@ -1,20 +1,22 @@
 // A trial of the promise of a portion on the smallest rule:
 // the cells are the numbers below n that leave 1 over 3, a mark is a number, and a record is the number and a 7.
 // The loop is the one that any listing has: ask for the next cell first, then whether the room is full.
+#![tactic(auto)]
+
 ghost use Rattle.std.specs.Prelude.{[], ◌∷◌, ◌+◌, ◌≤◌, length};
 ghost use Rattle.base.specs.Laid.{Laid};
 ghost use Rattle.portions.specs.Run.{Outcome};
 ghost use Rattle.portions.specs.between.Steps.{Next};
 ghost use Rattle.small_rules.specs.between.Trial.{trial_rule, trials, reply_says};
 
-#[derive(Drop)]
+#[derive(Clone, Copy)]
 pub struct TrialFound {
     pub found: bool,
     pub cell: u16,
 }
 
 // A refusal tells its reason and nothing else: there is no count or mark to make up.
-#[derive(Drop)]
+#[derive(Clone, Copy)]
 pub enum Reply {
     Records {
         count: usize,

@@ -1,4 +1,6 @@
 // Points and the box product of four of them; the numbers of vertices and of tetrahedra, kept apart by their types.
+#![tactic(auto)]
+
 ghost use Rattle.std.specs.Prelude.{◌≡◌, [], ◌∷◌, ◌+◌, ◌*◌, ◌/◌, ◌<◌, ◌≤◌, length, ◌+ℤ◌, ◌-ℤ◌, ◌*ℤ◌};
 ghost use Rattle.base.specs.Lists.{all, is_in};
 ghost use Rattle.base.specs.between.Size.{Small};
@@ -10,20 +12,20 @@ ghost use Rattle.space.specs.Arrays.{row4, mesh_of};
 ghost use Rattle.space.specs.between.Working.{Close};
 
 // The number of a vertex, and the number of a tetrahedron.
-#[derive(Drop)]
+#[derive(Clone, Copy)]
 pub struct Vertex(pub u16);
 
-#[derive(Drop)]
+#[derive(Clone, Copy)]
 pub struct Tet(pub u16);
 
-#[derive(Drop)]
+#[derive(Clone, Copy)]
 pub struct Point {
     pub x: i64,
     pub y: i64,
     pub z: i64,
 }
 
-#[derive(Drop)]
+#[derive(Clone, Copy)]
 pub enum Boxed {
     Value(i64),
     Refused,

@@ -1,4 +1,6 @@
 // Of how many tetrahedra the triangles of a face are facets; two of a cell's tetrahedra that are of two parts.
+#![tactic(auto)]
+
 ghost use Rattle.std.specs.Prelude.{◌/◌, ◌≤◌, ◌<◌, length};
 
 use open_faces::sides_at;

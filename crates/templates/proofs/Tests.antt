@@ -36,6 +36,7 @@ part (b ∷ bs) e zero = both_left _ _ e
 part (b ∷ bs) e (suc k) = part bs (both_right b _ e) k
 
 pub any-from : {A : Type 0} (p : A → Bool) (xs : List A) {x : A} → Memᴰ x xs → p x ≡ true → any p xs ≡ true
+any-from {A = A} p [] x4 e = elim x4 [ ]
 any-from p (y ∷ ys) (Memᴰ.head q) e = rw (← q, e)
 any-from p (y ∷ ys) (Memᴰ.tail h) e = rw (any-from p ys h e, or_comm (p y) true)
 

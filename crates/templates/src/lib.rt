@@ -1,4 +1,6 @@
 // The tables of the three kinds of cell, and readers of a tuple.
+#![tactic(auto)]
+
 ghost use Rattle.std.specs.Prelude.{◌≡◌, get_or};
 ghost use Rattle.base.specs.Lists.{is_in, distinct};
 ghost use Rattle.templates.specs.Tables.{at};

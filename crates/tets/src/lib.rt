@@ -1,4 +1,6 @@
 // What is asked of each tetrahedron by itself: refusals 5, 6 and 7, over the working arrays.
+#![tactic(auto)]
+
 ghost use Rattle.std.specs.Prelude.{◌≡◌, [], ◌∷◌, not, ◌/◌, ◌≤◌, ◌<◌, leb, length};
 ghost use Rattle.base.specs.Lists.{distinct};
 ghost use Rattle.space.specs.Arrays.{row4};

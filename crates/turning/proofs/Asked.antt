@@ -15,6 +15,7 @@ use Rattle.turning.specs.Form.{least_by, form_of, form_by, least_form, least_num
 pub template-of : {t : Template} → Memᴰ t templates → (is_kind t.kind ≡ true) × (template_of t.kind ≡ t)
 template-of (Memᴰ.head q) = (ap (λ (t : Template). is_kind t.kind) q, ap (λ (t : Template). template_of t.kind) q ∙ sym q)
 template-of (Memᴰ.tail (Memᴰ.head q)) = (ap (λ (t : Template). is_kind t.kind) q, ap (λ (t : Template). template_of t.kind) q ∙ sym q)
+template-of {t = t} (Memᴰ.tail (Memᴰ.tail (Memᴰ.tail x12))) = elim x12 [ ]
 template-of (Memᴰ.tail (Memᴰ.tail (Memᴰ.head q))) = (ap (λ (t : Template). is_kind t.kind) q, ap (λ (t : Template). template_of t.kind) q ∙ sym q)
 
 -- a tuple of distinct corners of a kind is given its one least form, with zeros in unused places

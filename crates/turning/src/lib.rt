@@ -1,4 +1,6 @@
 // A tuple turned into least form.
+#![tactic(auto)]
+
 mod tables;
 
 ghost use Rattle.std.specs.Prelude.{◌≡◌, cond, [], ◌*◌, ◌≤◌, length};
@@ -15,7 +17,7 @@ use tables::{HEX_TURNS, PRISM_TURNS, PYRAMID_TURNS};
 use templates::{all_distinct, turned};
 
 // What is answered for a least form: its eight numbers, 0 where the kind has no corner, or refusal 13.
-#[derive(Drop)]
+#[derive(Clone, Copy)]
 pub enum Least {
     Form(u16, u16, u16, u16, u16, u16, u16, u16),
     Refused,

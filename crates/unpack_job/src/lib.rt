@@ -3,6 +3,8 @@
 //
 // Where the file is refused, nothing is written there, and `refused` with the number on standard error says so; `lost`,
 // where the text could not be written.
+#![tactic(auto)]
+
 ghost use Rattle.std.specs.Prelude.{◌≡◌, length};
 
 use output::{show_front, tell_refused};

@@ -1,5 +1,7 @@
 // The lists of a mesh file as plain text, in a room that the caller lends: what packing undoes. The text is that of
 // `writing_lists`, a line for the counts, one for each vertex and one for each tetrahedron.
+#![tactic(auto)]
+
 ghost use Rattle.std.specs.Prelude.{◌≡◌, ◌+◌, ◌*◌, ◌≤◌, ◌<◌, pos, length};
 ghost use Rattle.base.specs.Laid.{Laid};
 ghost use Rattle.space.specs.between.Working.{Close};

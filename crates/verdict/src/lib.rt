@@ -1,5 +1,7 @@
 // The cell test, for a kind and its eight numbers: the first of conditions 1 to 6 that a tuple fails;
 // whether it is a cell, with its tetrahedra.
+#![tactic(auto)]
+
 ghost use Rattle.std.specs.Prelude.{◌≡◌, false, ◌/◌, ◌≤◌, length};
 ghost use Rattle.space.specs.Arrays.{mesh_of};
 ghost use Rattle.tets_around.specs.between.Arrays.{Arrays};
@@ -20,7 +22,7 @@ use record::{TET_PLACES, UNUSED};
 pub use rows::{Bounds, all_rows, bounds_of};
 
 // Yes or no, and the tetrahedra of the cell where it is yes.
-#[derive(Drop)]
+#[derive(Clone, Copy)]
 pub struct Verdict {
     pub yes: bool,
     pub tets: Tets,

@@ -5,7 +5,7 @@ ghost use Rattle.verdict.specs.between.FlatTables.{all_rows, bounds_of, BoundsRi
 use templates::ROWS;
 
 // How many corners a kind has, and where each of its tables begins in the rows of all; the last ends at `end`.
-#[derive(Drop)]
+#[derive(Clone, Copy)]
 pub struct Bounds {
     pub corners: usize,
     pub edges: usize,

@@ -1,5 +1,7 @@
 // One vertex and one tetrahedron of a mesh file, read from its own bytes for given counts. Where these do not fill the
 // file, nothing is anywhere.
+#![tactic(auto)]
+
 ghost use Rattle.std.specs.Prelude.{◌≡◌, ◌+◌, ◌*◌, ◌≤◌, length};
 ghost use Rattle.view.specs.View.{fills_file, place_in, tetra_in, part_in};
 ghost use Rattle.view.specs.between.Reads.{point_read, tetra_read};
@@ -8,14 +10,14 @@ use layout::{i32_at, u16_at};
 use space::{Point, Tet, Vertex};
 
 // Where a vertex is.
-#[derive(Drop)]
+#[derive(Clone, Copy)]
 pub enum Located {
     At(Point),
     Nowhere,
 }
 
 // The vertices of a tetrahedron.
-#[derive(Drop)]
+#[derive(Clone, Copy)]
 pub enum Tetra {
     Four {
         a: Vertex,
@@ -27,7 +29,7 @@ pub enum Tetra {
 }
 
 // The part of a tetrahedron.
-#[derive(Drop)]
+#[derive(Clone, Copy)]
 pub enum Part {
     Number(u16),
     NoPart,

@@ -1,4 +1,6 @@
 // Why a tuple of a file's mesh is not a cell, or that it is one.
+#![tactic(auto)]
+
 ghost use Rattle.std.specs.Prelude.{◌≡◌, ◌*◌, ◌≤◌, ◌<◌, length};
 ghost use Rattle.layout.specs.between.Framed.{Framed};
 ghost use Rattle.arrays.specs.between.Headed.{headed};

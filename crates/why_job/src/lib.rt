@@ -9,6 +9,8 @@
 //
 // Where the file or the kind is refused, nothing is written there, and `refused` with the number on standard error says
 // so; `lost`, where a line could not be written.
+#![tactic(auto)]
+
 ghost use Rattle.std.specs.Prelude.{◌≡◌, length};
 
 use arrays::Checked;

@@ -1,4 +1,6 @@
 // Lists of a mesh printed as plain text, a line at a time, into a lent slice.
+#![tactic(auto)]
+
 ghost use Rattle.std.specs.Prelude.{◌≡◌, ◌+◌, ◌*◌, ◌≤◌, nat_abs, length};
 ghost use Rattle.base.specs.Laid.{Laid};
 ghost use Rattle.base.specs.Lists.{spread};
