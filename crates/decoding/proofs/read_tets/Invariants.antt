@@ -1,0 +1,24 @@
+-- `decoding::read_tets` meets its contract. The loop's invariant: the entries passed are filled. Assumes nothing.
+use mathlib.Core.Path.{◌≡◌, ◌∙◌, sym, ap}
+use mathlib.Core.List.{List}
+use Prim.Native.Nat.{ℕ, ◌+◌, ◌*◌, ◌/◌, ◌%◌, ◌-◌, ◌<◌}
+use native.Mathlib.Omega.{arith}
+use lib.ListN.{length, length-set}
+use borrow.Author.Rules.{rules}
+use Rattle.layout.specs.Bytes.{u16_at}
+use Rattle.layout.specs.Layout.{labels_in, parts_in}
+use Rattle.decoding.proofs.Fill.{Filled, fill_start, fill-next, fill-four, fill_done}
+use Rattle.decoding.proofs.read_tets.Given as goal
+
+-- what stands at x, of the labels and of the parts
+abbrev pub At : List ℕ → ℕ → ℕ
+At part x = u16_at part (10 * (x / 4) + 2 * (x % 4))
+
+abbrev pub PartAt : List ℕ → ℕ → ℕ
+PartAt part j = u16_at part (10 * j + 8)
+
+abbrev pub invariant-loop-j : goal.invariant-loop-j
+invariant-loop-j l = Filled (At l.part) 0 (length l.initial.labels) (4 * l.j) l.labels × Filled (PartAt l.part) 0 (length l.initial.parts) l.j l.parts
+
+abbrev pub decreases-loop-j : goal.decreases-loop-j
+decreases-loop-j l = length l.initial.parts - l.j

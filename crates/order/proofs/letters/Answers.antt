@@ -1,0 +1,10 @@
+-- `order::letters` meets its contract. Assumes nothing.
+use mathlib.Core.Path.{◌∙◌}
+use borrow.Author.Tests.{eq-eqb, ne_eqb}
+use borrow.Author.Rules.{rules}
+use lib.Dec.{eqb}
+use Rattle.order.proofs.Fronts.{trimmed-letters}
+use Rattle.order.proofs.letters.Goals as goal
+
+pub returns-then-kind-eq8 : goal.returns-then-kind-eq8
+returns-then-kind-eq8 c = rw (eq-eqb _ 8 c.if-kind-eq8.true) c.turned.ensures

@@ -1,0 +1,13 @@
+-- `templates::all_distinct` meets its contract. Assumes nothing.
+use mathlib.Core.Path.{sym, ◌∙◌}
+use Prim.Native.Nat.{◌+◌, ◌-◌}
+use lib.ListN.{length}
+use Rattle.base.proofs.Loop.{part_in, DistinctUp, distinct-start, distinct-next, distinct-fails, distinct-done}
+use native.Mathlib.Omega.{arith}
+use Rattle.templates.proofs.all_distinct.Given as goal
+
+abbrev pub invariant-loop-i : goal.invariant-loop-i
+invariant-loop-i l = DistinctUp l.c l.i
+
+abbrev pub decreases-loop-i : goal.decreases-loop-i
+decreases-loop-i l = length l.c - l.i

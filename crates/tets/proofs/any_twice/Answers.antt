@@ -1,0 +1,21 @@
+-- `tets::any_twice` meets its contract. Assumes nothing.
+use Rattle.tets.proofs.Tests.{any-up}
+use mathlib.Core.Path.{◌≡◌, refl, sym, ◌∙◌}
+use Prim.Native.Nat.{◌/◌, ◌-◌}
+use native.Mathlib.Omega.{arith}
+use lib.ListN.{length}
+use Rattle.base.proofs.Loop.{AnyUp, any-start, any_next, any_found, any-done}
+use Rattle.tets.specs.Tets.{twice}
+use Rattle.tets.proofs.any_twice.Goals as goal
+
+pub loop-j-init : goal.loop-j-init
+loop-j-init c = (refl, any-start)
+
+pub returns-then-names_twice : goal.returns-then-names_twice
+returns-then-names_twice c = let s = c.args in any_found c.loop-j.invariant.1 (omega arith) (sym c.names_twice.ensures ∙ c.if-names_twice.true) ∙ any-up (twice s.labels.now) (length s.labels.now / 4)
+
+pub loop-j-preserved : goal.loop-j-preserved
+loop-j-preserved c = (refl, any_next c.loop-j.invariant.1 (omega arith) (sym c.names_twice.ensures ∙ c.if-names_twice.false))
+
+pub returns : goal.returns
+returns c = let s = c.args in any-done c.loop-j.invariant.1 (omega arith) ∙ any-up (twice s.labels.now) (length s.labels.now / 4)
