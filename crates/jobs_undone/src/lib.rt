@@ -1,3 +1,2 @@
 // Theorems alone, in specs and proofs: `pack` undoes `unpack`, and `unpack` undoes `pack`.
 #![tactic(auto)]
-

@@ -2,4 +2,3 @@
 // it passes the test of every level, its vertices stand in the rows of the corners joined to them
 // and above those they must be above, and each follows by whatever aim is known. No code.
 #![tactic(auto)]
-

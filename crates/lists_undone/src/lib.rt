@@ -2,4 +2,3 @@
 // of what it says.
 // No code: specs/ has the statements, proofs/ the proofs.
 #![tactic(auto)]
-

@@ -3,11 +3,10 @@ use mathlib.Core.Path.{◌≡◌, ap, ◌∙◌}
 use Prim.Native.Nat.{◌-◌}
 use native.Mathlib.Omega.{arith}
 use lib.IntN.{pos}
-use lib.ListN.{length, get_or}
-use borrow.Author.Tests.{not-true, not-false}
+use lib.ListN.{get_or}
 use borrow.Author.Rules.{rules}
 use Rattle.base.specs.Lists.{all}
-use Rattle.base.proofs.Loop.{AllUp, all_start, all-next, all-fails, all_done, listed}
+use Rattle.base.proofs.Loop.{all_start, all-next, all-fails, all_done, listed}
 use Rattle.space.specs.Box.{near}
 use Rattle.space.proofs.Near.{of-bits}
 use Rattle.decoding.proofs.all_near.Goals as goal

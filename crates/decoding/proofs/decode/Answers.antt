@@ -1,6 +1,5 @@
 -- `decoding::decode` meets its contract: what was read is what the file says. Assumes nothing.
 use Rattle.decoding.proofs.Parts.{coords_of_part, labels_of_part, parts_of_part}
-use borrow.Author.Rules.{rules}
 use Rattle.decoding.proofs.decode.Goals as goal
 
 pub returns : goal.returns

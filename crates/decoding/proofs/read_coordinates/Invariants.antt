@@ -1,17 +1,11 @@
 -- `decoding::read_coordinates` meets its contract. The loop's invariant: the entries passed are filled.
 -- Assumes nothing.
-use mathlib.Core.Path.{◌∙◌}
 use mathlib.Core.List.{List}
 use Prim.Native.Nat.{ℕ, ◌*◌, ◌-◌}
-use native.Mathlib.Omega.{arith}
 use lib.IntN.{ℤ, pos}
 use lib.ListN.{length}
-use mir.Syntax.{w64}
-use mir.ValLaws.{to_z-of_z}
-use borrow.Author.Rules.{rules}
 use Rattle.layout.specs.Bytes.{i32_at}
-use Rattle.layout.specs.Layout.{coords_in}
-use Rattle.decoding.proofs.Fill.{Filled, fill_start, fill-next, fill_done}
+use Rattle.decoding.proofs.Fill.{Filled}
 use Rattle.decoding.proofs.read_coordinates.Given as goal
 
 -- what stands at k

@@ -3,11 +3,10 @@ use mathlib.Core.Path.{◌≡◌, ◌∙◌, sym, ap}
 use mathlib.Core.List.{List}
 use Prim.Native.Nat.{ℕ, ◌+◌, ◌*◌, ◌/◌, ◌%◌, ◌-◌, ◌<◌}
 use native.Mathlib.Omega.{arith}
-use lib.ListN.{length, length-set}
-use borrow.Author.Rules.{rules}
+use lib.ListN.{length-set}
 use Rattle.layout.specs.Bytes.{u16_at}
 use Rattle.layout.specs.Layout.{labels_in, parts_in}
-use Rattle.decoding.proofs.Fill.{Filled, fill_start, fill-next, fill-four, fill_done}
+use Rattle.decoding.proofs.Fill.{fill_start, fill-next, fill-four, fill_done}
 use Rattle.decoding.proofs.read_tets.Invariants.{At}
 use Rattle.decoding.proofs.read_tets.Goals as goal
 

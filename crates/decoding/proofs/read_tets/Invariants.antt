@@ -1,13 +1,9 @@
 -- `decoding::read_tets` meets its contract. The loop's invariant: the entries passed are filled. Assumes nothing.
-use mathlib.Core.Path.{◌≡◌, ◌∙◌, sym, ap}
 use mathlib.Core.List.{List}
-use Prim.Native.Nat.{ℕ, ◌+◌, ◌*◌, ◌/◌, ◌%◌, ◌-◌, ◌<◌}
-use native.Mathlib.Omega.{arith}
-use lib.ListN.{length, length-set}
-use borrow.Author.Rules.{rules}
+use Prim.Native.Nat.{ℕ, ◌+◌, ◌*◌, ◌/◌, ◌%◌, ◌-◌}
+use lib.ListN.{length}
 use Rattle.layout.specs.Bytes.{u16_at}
-use Rattle.layout.specs.Layout.{labels_in, parts_in}
-use Rattle.decoding.proofs.Fill.{Filled, fill_start, fill-next, fill-four, fill_done}
+use Rattle.decoding.proofs.Fill.{Filled}
 use Rattle.decoding.proofs.read_tets.Given as goal
 
 -- what stands at x, of the labels and of the parts

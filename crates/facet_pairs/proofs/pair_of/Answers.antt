@@ -1,6 +1,5 @@
 -- `facet_pairs::pair_of` meets its contract. Assumes nothing.
 use Rattle.facet_pairs.proofs.Telling.{named}
-use borrow.Author.Rules.{rules}
 use Rattle.facet_pairs.proofs.pair_of.Goals as goal
 
 pub returns : goal.returns

@@ -3,7 +3,6 @@ use mathlib.Core.Path.{ap}
 use Prim.Native.Nat.{◌%◌}
 use native.Mathlib.Omega.{arith}
 use Rattle.facet_pairs.specs.between.Pairs.{pair_place}
-use borrow.Author.Rules.{rules}
 use Rattle.facet_pairs.proofs.pair_place.Goals as goal
 
 pub returns : goal.returns

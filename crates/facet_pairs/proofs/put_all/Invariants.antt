@@ -1,12 +1,8 @@
 -- `facet_pairs::put_all` meets its contract. Assumes nothing.
-use mathlib.Core.Path.{◌≡◌, ◌∙◌}
 use Prim.Native.Nat.{◌/◌, ◌-◌, ◌≤◌}
 use lib.ListN.{length}
-use native.Mathlib.Omega.{arith}
 use Rattle.base.specs.between.Stores.{Below}
-use Rattle.base.proofs.Stores.{stores_none, stores_next}
 use Rattle.facet_pairs.specs.between.Pairs.{Puts, PairsAsked}
-use Rattle.facet_pairs.proofs.Telling.{all_told}
 use Rattle.facet_pairs.proofs.put_all.Given as goal
 
 abbrev pub invariant-loop-i : goal.invariant-loop-i

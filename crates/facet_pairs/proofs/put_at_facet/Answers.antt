@@ -3,7 +3,6 @@ use mathlib.Core.Path.{refl}
 use mathlib.Core.Logic.{inl, inr}
 use native.Mathlib.Omega.{arith}
 use Rattle.facet_pairs.proofs.Telling.{put_first, put_second}
-use borrow.Author.Rules.{rules}
 use Rattle.facet_pairs.proofs.put_at_facet.Goals as goal
 
 pub returns-then-pairs-at-eq0 : goal.returns-then-pairs-at-eq0

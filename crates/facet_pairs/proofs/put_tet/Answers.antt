@@ -1,6 +1,5 @@
 -- `facet_pairs::put_tet` meets its contract. Assumes nothing.
 use Rattle.facet_pairs.proofs.Telling.{put-tet}
-use borrow.Author.Rules.{rules}
 use Rattle.facet_pairs.proofs.put_tet.Goals as goal
 
 pub returns : goal.returns

@@ -2,7 +2,6 @@
 use native.Mathlib.Omega.{arith}
 use borrow.Author.Tests.{le-leb, lt-leb}
 use Rattle.layout.specs.Layout.{vertices, counts_right}
-use borrow.Author.Rules.{rules}
 use Rattle.layout.proofs.counts_right.Goals as goal
 
 pub returns-then-u32_at-gt512 : goal.returns-then-u32_at-gt512

@@ -5,7 +5,6 @@ use native.Mathlib.Omega.{arith}
 use borrow.Author.Tests.{eq-eqb, ne_eqb}
 use Rattle.layout.specs.Bytes.{u32_at}
 use Rattle.layout.specs.Layout.{vertices, tets, layout_right}
-use borrow.Author.Rules.{rules}
 use Rattle.layout.proofs.layout_right.Goals as goal
 
 pub returns-then-u32_at-ne24 : goal.returns-then-u32_at-ne24

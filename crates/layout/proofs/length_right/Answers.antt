@@ -3,7 +3,6 @@ use native.Mathlib.Omega.{arith}
 use lib.ListN.{length}
 use borrow.Author.Tests.{le-leb, lt-leb}
 use Rattle.layout.specs.Layout.{length_right}
-use borrow.Author.Rules.{rules}
 use Rattle.layout.proofs.length_right.Goals as goal
 
 pub returns-then-length-lt24 : goal.returns-then-length-lt24

@@ -1,13 +1,9 @@
 -- `least::all_rise` meets its contract. Assumes nothing.
-use mathlib.Core.Path.{◌≡◌, refl, sym, ◌∙◌}
-use Prim.Native.Nat.{◌/◌, ◌-◌}
-use lib.ListN.{length}
-use borrow.Author.Tests.{not-true, not-false}
+use mathlib.Core.Path.{refl, sym, ◌∙◌}
+use Prim.Native.Nat.{◌-◌}
 use native.Mathlib.Omega.{arith}
-use Rattle.base.proofs.Loop.{AllUp, all_start, all-next, all-fails, all_done}
-use Rattle.templates.specs.Tables.{at}
-use Rattle.templates.specs.between.Flat.{pair_at}
-use Rattle.least.specs.Least.{first_is_less, rises_at}
+use Rattle.base.proofs.Loop.{all_start, all-next, all-fails, all_done}
+use Rattle.least.specs.Least.{rises_at}
 use Rattle.least.proofs.all_rise.Goals as goal
 
 pub loop-i-init : goal.loop-i-init

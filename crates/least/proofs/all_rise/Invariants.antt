@@ -1,13 +1,11 @@
 -- `least::all_rise` meets its contract. Assumes nothing.
-use mathlib.Core.Path.{◌≡◌, refl, sym, ◌∙◌}
+use mathlib.Core.Path.{◌≡◌}
 use Prim.Native.Nat.{◌/◌, ◌-◌}
 use lib.ListN.{length}
-use borrow.Author.Tests.{not-true, not-false}
-use native.Mathlib.Omega.{arith}
-use Rattle.base.proofs.Loop.{AllUp, all_start, all-next, all-fails, all_done}
+use Rattle.base.proofs.Loop.{AllUp}
 use Rattle.templates.specs.Tables.{at}
 use Rattle.templates.specs.between.Flat.{pair_at}
-use Rattle.least.specs.Least.{first_is_less, rises_at}
+use Rattle.least.specs.Least.{first_is_less}
 use Rattle.least.proofs.all_rise.Given as goal
 
 abbrev pub invariant-loop-i : goal.invariant-loop-i

@@ -4,7 +4,6 @@ use lib.Seq.{length-take-le}
 use native.Mathlib.Omega.{arith}
 use borrow.Author.Tests.{eq-eqb, ne_eqb}
 use Rattle.least.specs.Least.{is_least}
-use borrow.Author.Rules.{rules}
 use Rattle.least.proofs.is_least.Goals as goal
 
 pub slice_bounds-all_rise-end : goal.slice_bounds-all_rise-end

@@ -1,5 +1,4 @@
 -- `least::rises_at` meets its contract. Assumes nothing.
-use borrow.Author.Rules.{rules}
 use Rattle.least.specs.Least.{first_is_less}
 use Rattle.least.proofs.rises_at.Goals as goal
 

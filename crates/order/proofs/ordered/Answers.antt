@@ -1,9 +1,5 @@
 -- `order::ordered` meets its contract. Assumes nothing.
-use mathlib.Core.Path.{◌∙◌}
-use borrow.Author.Tests.{eq-eqb, ne_eqb}
-use borrow.Author.Rules.{rules}
-use lib.Dec.{eqb}
-use Rattle.order.proofs.Fronts.{trimmed-order}
+use borrow.Author.Tests.{eq-eqb}
 use Rattle.order.proofs.ordered.Goals as goal
 
 pub returns-then-kind-eq8 : goal.returns-then-kind-eq8

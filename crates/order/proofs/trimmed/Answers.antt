@@ -1,6 +1,5 @@
 -- `order::trimmed` meets its contract. Assumes nothing.
 use borrow.Author.Tests.{eq-eqb, ne_eqb}
-use borrow.Author.Rules.{rules}
 use Rattle.order.proofs.trimmed.Goals as goal
 
 pub returns-then-kind-eq6 : goal.returns-then-kind-eq6

@@ -1,14 +1,12 @@
 -- `rooms::put` meets its contract. The loop's invariant: what it has passed of the list is laid from
 -- `from` on. Assumes nothing.
 use mathlib.Core.Path.{refl}
-use Prim.Native.Nat.{◌+◌, ◌-◌, ◌≤◌, ◌<◌}
+use Prim.Native.Nat.{◌+◌, ◌-◌, ◌<◌}
 use native.Mathlib.Omega.{arith}
 use native.Mathlib.Numerals.{add-one}
-use lib.ListN.{length, get_or, take}
+use lib.ListN.{length, get_or}
 use lib.Seq.{take-suc, length-take-le, take_all}
-use Rattle.base.specs.Laid.{Laid}
 use Rattle.base.proofs.Lay.{laid_none, laid-set, laid_as}
-use borrow.Author.Rules.{rules}
 use Rattle.rooms.proofs.put.Goals as goal
 
 pub loop-i-init : goal.loop-i-init

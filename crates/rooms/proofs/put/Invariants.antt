@@ -1,14 +1,8 @@
 -- `rooms::put` meets its contract. The loop's invariant: what it has passed of the list is laid from
 -- `from` on. Assumes nothing.
-use mathlib.Core.Path.{refl}
-use Prim.Native.Nat.{◌+◌, ◌-◌, ◌≤◌, ◌<◌}
-use native.Mathlib.Omega.{arith}
-use native.Mathlib.Numerals.{add-one}
-use lib.ListN.{length, get_or, take}
-use lib.Seq.{take-suc, length-take-le, take_all}
+use Prim.Native.Nat.{◌-◌, ◌≤◌}
+use lib.ListN.{length, take}
 use Rattle.base.specs.Laid.{Laid}
-use Rattle.base.proofs.Lay.{laid_none, laid-set, laid_as}
-use borrow.Author.Rules.{rules}
 use Rattle.rooms.proofs.put.Given as goal
 
 abbrev pub invariant-loop-i : goal.invariant-loop-i

@@ -2,7 +2,6 @@
 use mathlib.Core.Path.{refl}
 use native.Mathlib.Omega.{arith}
 use Rattle.base.proofs.Lay.{laid_more}
-use borrow.Author.Rules.{rules}
 use Rattle.rooms.proofs.put_both.Goals as goal
 
 pub returns : goal.returns

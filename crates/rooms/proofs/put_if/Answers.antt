@@ -4,7 +4,6 @@ use Prim.Native.Nat.{◌+◌, ◌<◌}
 use native.Mathlib.Omega.{arith}
 use lib.ListN.{length, length-append}
 use Rattle.rooms.proofs.Room.{short-answer, short-content, full-answer, full-content}
-use borrow.Author.Rules.{rules}
 use Rattle.rooms.proofs.put_if.Goals as goal
 
 pub returns-then-room-size : goal.returns-then-room-size

@@ -1,6 +1,5 @@
 -- `space::box_product` meets its contract. Assumes nothing.
 use mathlib.Core.Path.{sym, ap, ◌∙◌}
-use mathlib.Core.Logic.{⊎_elim}
 use mir.Syntax.{w64}
 use mir.ValLaws.{to_z-of_z}
 use Rattle.space.specs.declared.Boxed.TheVariants.{Value}

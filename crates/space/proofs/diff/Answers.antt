@@ -1,5 +1,5 @@
 -- `space::diff` meets its contract: the difference of two small numbers is small. Assumes nothing.
-use Rattle.base.proofs.Signed.{of-small, sub-fits, sub_holds}
+use Rattle.base.proofs.Signed.{of-small, sub-fits}
 use Rattle.space.proofs.diff.Goals as goal
 
 pub overflow_sub-result : goal.overflow_sub-result

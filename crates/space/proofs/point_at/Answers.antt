@@ -7,7 +7,6 @@ use mir.Syntax.{w64}
 use Rattle.base.proofs.Signed.{back, back-small}
 use Rattle.base.proofs.Loop.{get_or-up, get_d_past}
 use native.Mathlib.Omega.{arith}
-use borrow.Author.Rules.{rules}
 use Rattle.space.proofs.point_at.Goals as goal
 
 pub returns-then-at-coords : goal.returns-then-at-coords

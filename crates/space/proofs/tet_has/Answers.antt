@@ -2,7 +2,6 @@
 use mathlib.Core.Path.{sym}
 use borrow.Author.Tests.{eq-eqb, ne_eqb}
 use Rattle.base.proofs.Bools.{or-false}
-use borrow.Author.Rules.{rules}
 use Rattle.space.proofs.tet_has.Goals as goal
 
 pub returns-then-x-labels : goal.returns-then-x-labels

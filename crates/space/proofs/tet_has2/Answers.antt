@@ -1,8 +1,6 @@
 -- `space::tet_has2` meets its contract. Assumes nothing.
 use mathlib.Core.Path.{sym, ◌∙◌}
-use borrow.Author.Tests.{not-true, not-false}
 use Rattle.base.proofs.Bools.{and-true}
-use borrow.Author.Rules.{rules}
 use Rattle.space.proofs.tet_has2.Goals as goal
 
 pub returns-then-not-tet_has : goal.returns-then-not-tet_has

@@ -1,7 +1,5 @@
 -- `space::tet_has3` meets its contract. Assumes nothing.
 use mathlib.Core.Path.{sym, ◌∙◌}
-use borrow.Author.Tests.{not-true, not-false}
-use borrow.Author.Rules.{rules}
 use Rattle.space.proofs.tet_has3.Goals as goal
 
 pub returns-then-not-tet_has : goal.returns-then-not-tet_has

@@ -1,8 +1,7 @@
 -- `templates::all_distinct` meets its contract. Assumes nothing.
 use mathlib.Core.Path.{sym, ◌∙◌}
 use Prim.Native.Nat.{◌+◌, ◌-◌}
-use lib.ListN.{length}
-use Rattle.base.proofs.Loop.{part_in, DistinctUp, distinct-start, distinct-next, distinct-fails, distinct-done}
+use Rattle.base.proofs.Loop.{part_in, distinct-start, distinct-next, distinct-fails, distinct-done}
 use native.Mathlib.Omega.{arith}
 use Rattle.templates.proofs.all_distinct.Goals as goal
 

@@ -1,9 +1,7 @@
 -- `templates::all_distinct` meets its contract. Assumes nothing.
-use mathlib.Core.Path.{sym, ◌∙◌}
-use Prim.Native.Nat.{◌+◌, ◌-◌}
+use Prim.Native.Nat.{◌-◌}
 use lib.ListN.{length}
-use Rattle.base.proofs.Loop.{part_in, DistinctUp, distinct-start, distinct-next, distinct-fails, distinct-done}
-use native.Mathlib.Omega.{arith}
+use Rattle.base.proofs.Loop.{DistinctUp}
 use Rattle.templates.proofs.all_distinct.Given as goal
 
 abbrev pub invariant-loop-i : goal.invariant-loop-i

@@ -1,11 +1,10 @@
 -- `templates::is_in` meets its contract. Assumes nothing.
 use mathlib.Core.Path.{◌∙◌, ap}
 use Prim.Native.Nat.{◌-◌}
-use lib.ListN.{length, get_or}
 use lib.Dec.{eqb}
 use borrow.Author.Tests.{eq-eqb, ne_eqb}
 use Rattle.base.specs.Lists.{any}
-use Rattle.base.proofs.Loop.{AnyUp, any-start, any_next, any_found, any-done, listed}
+use Rattle.base.proofs.Loop.{any-start, any_next, any_found, any-done, listed}
 use native.Mathlib.Omega.{arith}
 use Rattle.templates.proofs.is_in.Goals as goal
 

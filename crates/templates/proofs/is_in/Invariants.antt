@@ -1,12 +1,8 @@
 -- `templates::is_in` meets its contract. Assumes nothing.
-use mathlib.Core.Path.{◌∙◌, ap}
 use Prim.Native.Nat.{◌-◌}
 use lib.ListN.{length, get_or}
 use lib.Dec.{eqb}
-use borrow.Author.Tests.{eq-eqb, ne_eqb}
-use Rattle.base.specs.Lists.{any}
-use Rattle.base.proofs.Loop.{AnyUp, any-start, any_next, any_found, any-done, listed}
-use native.Mathlib.Omega.{arith}
+use Rattle.base.proofs.Loop.{AnyUp}
 use Rattle.templates.proofs.is_in.Given as goal
 
 abbrev pub invariant-loop-i : goal.invariant-loop-i

@@ -1,5 +1,4 @@
 -- `templates::turned` meets its contract. Assumes nothing.
-use borrow.Author.Rules.{rules}
 use Rattle.templates.proofs.turned.Goals as goal
 
 pub returns : goal.returns

@@ -2,7 +2,6 @@
 use mathlib.Core.Path.{sym, ◌∙◌}
 use lib.ListN.{get_or, length-map, get_or-eq_default}
 use native.Mathlib.Omega.{arith}
-use borrow.Author.Rules.{rules}
 use Rattle.templates.specs.Tables.{at}
 use Rattle.templates.proofs.Tests.{get_d_map}
 use Rattle.templates.proofs.turned_at.Goals as goal

@@ -1,10 +1,10 @@
 -- `tets::any_outside` meets its contract. Assumes nothing.
 use Rattle.tets.proofs.Tests.{any-up}
-use mathlib.Core.Path.{◌≡◌, refl, sym, ◌∙◌}
+use mathlib.Core.Path.{refl, sym, ◌∙◌}
 use Prim.Native.Nat.{◌/◌, ◌-◌}
 use native.Mathlib.Omega.{arith}
 use lib.ListN.{length}
-use Rattle.base.proofs.Loop.{AnyUp, any-start, any_next, any_found, any-done}
+use Rattle.base.proofs.Loop.{any-start, any_next, any_found, any-done}
 use Rattle.tets.specs.Tets.{outside}
 use Rattle.tets.proofs.any_outside.Goals as goal
 

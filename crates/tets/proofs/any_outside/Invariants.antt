@@ -1,10 +1,8 @@
 -- `tets::any_outside` meets its contract. Assumes nothing.
-use Rattle.tets.proofs.Tests.{any-up}
-use mathlib.Core.Path.{◌≡◌, refl, sym, ◌∙◌}
+use mathlib.Core.Path.{◌≡◌}
 use Prim.Native.Nat.{◌/◌, ◌-◌}
-use native.Mathlib.Omega.{arith}
 use lib.ListN.{length}
-use Rattle.base.proofs.Loop.{AnyUp, any-start, any_next, any_found, any-done}
+use Rattle.base.proofs.Loop.{AnyUp}
 use Rattle.tets.specs.Tets.{outside}
 use Rattle.tets.proofs.any_outside.Given as goal
 

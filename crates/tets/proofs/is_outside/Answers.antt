@@ -2,7 +2,6 @@
 use lib.Dec.{leb}
 use Rattle.tets.specs.Tets.{outside}
 use Rattle.tets.proofs.Tests.{vertex_1, vertex_2, vertex_3, vertex_4}
-use borrow.Author.Rules.{rules}
 use Rattle.tets.proofs.is_outside.Goals as goal
 
 pub returns-then-is_past : goal.returns-then-is_past

@@ -5,7 +5,6 @@ use mathlib.Core.List.{[], ◌∷◌}
 use lib.ListN.{get_or}
 use Rattle.base.specs.Lists.{distinct}
 use Rattle.tets.specs.Tets.{twice}
-use borrow.Author.Rules.{rules}
 use Rattle.tets.proofs.names_twice.Goals as goal
 
 pub returns : goal.returns

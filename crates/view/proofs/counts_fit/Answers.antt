@@ -1,7 +1,6 @@
 -- `view::counts_fit` meets its contract. Assumes nothing.
 use borrow.Author.Tests.{le-leb, lt-leb}
 use Rattle.view.specs.View.{fills_file}
-use borrow.Author.Rules.{rules}
 use Rattle.view.proofs.counts_fit.Goals as goal
 
 pub returns-then-n-gt512 : goal.returns-then-n-gt512

@@ -4,12 +4,11 @@ use mathlib.Core.Bool.{true}
 use Prim.Native.Nat.{◌+◌, ◌*◌}
 use native.Mathlib.Omega.{arith}
 use lib.ListN.{length-drop}
-use borrow.Author.Tests.{not-true, not-false, lt-ltb, le-ltb}
+use borrow.Author.Tests.{lt-ltb, le-ltb}
 use Rattle.base.proofs.Loop.{part-is}
 use Rattle.view.specs.declared.Part.TheVariants.{Number}
 use Rattle.view.specs.View.{fills_file, part_in}
 use Rattle.view.proofs.Held.{Fitted, fits_say, part_held}
-use borrow.Author.Rules.{rules}
 use Rattle.view.proofs.part_of.Goals as goal
 
 pub returns-then-not-counts_fit : goal.returns-then-not-counts_fit

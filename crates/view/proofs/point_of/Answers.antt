@@ -3,12 +3,11 @@ use mathlib.Core.Path.{◌≡◌, sym, ap, ◌∙◌}
 use mathlib.Core.Bool.{true}
 use native.Mathlib.Omega.{arith}
 use lib.ListN.{length-drop}
-use borrow.Author.Tests.{not-true, not-false, lt-ltb, le-ltb}
+use borrow.Author.Tests.{lt-ltb, le-ltb}
 use Rattle.base.proofs.Loop.{part-is}
 use Rattle.view.specs.declared.Located.TheVariants.{At}
 use Rattle.view.specs.View.{fills_file, place_in}
 use Rattle.view.proofs.Held.{Fitted, fits_say, point-held}
-use borrow.Author.Rules.{rules}
 use Rattle.view.proofs.point_of.Goals as goal
 
 pub returns-then-not-counts_fit : goal.returns-then-not-counts_fit

@@ -1,5 +1,4 @@
 -- `view::tet_in` meets its contract, vertex by vertex. Assumes nothing.
-use borrow.Author.Rules.{rules}
 use Rattle.view.proofs.tet_in.Goals as goal
 
 pub returns : goal.returns

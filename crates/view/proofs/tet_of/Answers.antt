@@ -4,11 +4,10 @@ use mathlib.Core.Bool.{true}
 use Prim.Native.Nat.{◌+◌, ◌*◌}
 use native.Mathlib.Omega.{arith}
 use lib.ListN.{length-drop}
-use borrow.Author.Tests.{not-true, not-false, lt-ltb, le-ltb}
+use borrow.Author.Tests.{lt-ltb, le-ltb}
 use Rattle.base.proofs.Loop.{part-is}
 use Rattle.view.specs.View.{fills_file, tetra_in}
 use Rattle.view.proofs.Held.{Fitted, fits_say, tetra_held}
-use borrow.Author.Rules.{rules}
 use Rattle.view.proofs.tet_of.Goals as goal
 
 pub returns-then-not-counts_fit : goal.returns-then-not-counts_fit
