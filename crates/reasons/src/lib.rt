@@ -1,7 +1,6 @@
 // Why a tuple is not a cell. What is answered, and in specs and proofs what that tells; the crates above find it.
 #![tactic(auto)]
 
-
 // What is found of a tuple: that it is a cell; or the first condition that fails, and where; or a refusal's number.
 #[derive(Clone, Copy)]
 pub enum Finding {
