@@ -3,12 +3,8 @@ use mathlib.Core.Path.{refl}
 use Rattle.base.specs.Lists.{keep, spread}
 use Rattle.cells.specs.Cells.{inside, corner3}
 use Rattle.verdict.specs.between.FlatTables.{flat_tables, all_rows}
-use Rattle.verdict.proofs.rows.all_rows.Statement.{statement}
-use Rattle.verdict.proofs.rows.all_rows.Tie as tie
+use Rattle.verdict.proofs.rows.all_rows.Goals as goal
 
-returns : tie.Need-returns
+pub returns : goal.returns
 unfolding all_rows flat_tables spread inside keep corner3
 returns c = refl
-
-pub all-rows-spec : {M : Type 1} → statement M
-all-rows-spec = tie.close (tie.spec returns)
