@@ -1,8 +1,8 @@
 /* Puts questions to the library and passes its answers on, for the comparison.
  *
  * A question comes on standard input, the answer goes to standard output, both as plain numbers,
- * lowest byte first. It is a program of its own so that it can be built for x86-64 and run under an
- * emulator elsewhere, and so that a library that fails is seen as one. No system header is used.
+ * lowest byte first. It is a program of its own so that it can be built and run with the kit alone, and
+ * so that a library that fails is seen as one. No system header is used.
  */
 #include "opalcrumb.h"
 

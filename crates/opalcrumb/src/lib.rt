@@ -1,5 +1,5 @@
-// The library for programs in C and Rust: each function under its plain name, over numbers, slices and small arrays.
-// A slice is a pointer and then a length. Every function answers 0, or the number of a refusal; what a refusal leaves
+// What programs in C call, as a library: each function under its plain name, over numbers, slices and small arrays.
+// The crate opalcrumb_c exports them. Every function answers 0, or the number of a refusal; what a refusal leaves
 // unchanged is said at each.
 #![tactic(auto)]
 
@@ -21,8 +21,7 @@ use space::{Boxed, Point};
 use turning::Least;
 
 // 0 for a sound mesh, else refusal 1 to 9.
-#[unsafe(no_mangle)]
-pub extern "C" fn opalcrumb_check(file: &[u8]) -> u32
+pub fn opalcrumb_check(file: &[u8]) -> u32
     ensures { result ≡ refusal file.now }
 {
     mesh::refusal_of(file) as u32
@@ -30,8 +29,7 @@ pub extern "C" fn opalcrumb_check(file: &[u8]) -> u32
 
 // 0 and the file that the lists make, at the front of the room, with its length; or 14, 1 to 9 or 15, with the room and
 // `written` as they were.
-#[unsafe(no_mangle)]
-pub extern "C" fn opalcrumb_write(
+pub fn opalcrumb_write(
     coordinates: &[i32],
     numbers: &[u16],
     parts: &[u16],
@@ -75,14 +73,7 @@ fn point_of(p: &[i32]) -> Point
 }
 
 // 0 and the box product of four points, or 4 where a coordinate is out of bounds, and `value` as it was.
-#[unsafe(no_mangle)]
-pub extern "C" fn opalcrumb_box(
-    p: &[i32; 3],
-    q: &[i32; 3],
-    r: &[i32; 3],
-    s: &[i32; 3],
-    value: &mut i64,
-) -> u32
+pub fn opalcrumb_box(p: &[i32; 3], q: &[i32; 3], r: &[i32; 3], s: &[i32; 3], value: &mut i64) -> u32
     ensures answer { result ≡ box_number (boxed_by p.now q.now r.now s.now) }
     ensures value { value.new
         ≡ box_left (boxed_by p.now q.now r.now s.now) value.old }
@@ -98,8 +89,7 @@ pub extern "C" fn opalcrumb_box(
 }
 
 // 0 and the least form of a tuple, with 0 in unused places, or 13, and `least` as it was.
-#[unsafe(no_mangle)]
-pub extern "C" fn opalcrumb_least_form(kind: u16, corners: &[u16; 8], least: &mut [u16; 8]) -> u32
+pub fn opalcrumb_least_form(kind: u16, corners: &[u16; 8], least: &mut [u16; 8]) -> u32
     ensures answer { result ≡ least_number (least_form kind corners.now) }
     ensures least { least.new ≡ least_left (least_form kind corners.now) least.old }
 {
@@ -116,13 +106,7 @@ pub extern "C" fn opalcrumb_least_form(kind: u16, corners: &[u16; 8], least: &mu
 // 0 and what is found of a tuple in ten entries, or 1 to 9 or 16, and `answer` as it was. Entry 0 is 0 for a cell in
 // least form and 7 for a cell turned, both with their least form in entries 1 to 8; else the first condition that
 // fails, followed by where it fails.
-#[unsafe(no_mangle)]
-pub extern "C" fn opalcrumb_why(
-    file: &[u8],
-    kind: u16,
-    corners: &[u16; 8],
-    answer: &mut [u16; 10],
-) -> u32
+pub fn opalcrumb_why(file: &[u8], kind: u16, corners: &[u16; 8], answer: &mut [u16; 10]) -> u32
     ensures number { result ≡ finding_number (explained file.now kind corners.now) }
     ensures answer { answer.new ≡ entries_left (explained file.now kind corners.now) answer.old }
 {
@@ -162,8 +146,7 @@ fn hand_out(answer: Answer, mark: &mut [u16; 9], count: &mut u32, end: &mut u32)
 
 // 0 and the cells after the mark, or refusal 1 to 12. On 0 the mark is the one to go on from, `count` how many records
 // were written and `end` 1 where none remain. On 12 `count` is what was written before it; else nothing is written.
-#[unsafe(no_mangle)]
-pub extern "C" fn opalcrumb_portion(
+pub fn opalcrumb_portion(
     file: &[u8],
     mark: &mut [u16; 9],
     table: &mut [u16],
