@@ -1,6 +1,6 @@
 /* Opalcrumb from C: the cells of a tetrahedral mesh.
  *
- * Link with libopalcrumb.a (written by `rt staticlib opalcrumb`, for x86-64). The library keeps
+ * Link with libopalcrumb.a (written by `tools/build library`, for x86-64). The library keeps
  * nothing between calls, asks for no memory, calls nothing of the system and may be used from any
  * number of threads. Each function answers 0, or the number of the refusal that applies.
  *
