@@ -9,14 +9,15 @@ ghost use Rattle.std.specs.Prelude.{◌≡◌, length};
 
 use output::{show_front, tell_refused};
 use packing::Written;
+use std::io::Write;
 
 // The job, of the file that was read, with a text in which that of every file has place.
-pub fn unpack(out: &mut [u8], file: &[u8])
+pub fn unpack(to: &mut impl Write, err: &mut impl Write, out: &mut [u8], file: &[u8])
     requires { length out.old ≡ 65536 }
 {
     let answer = unpacking::unpack(file, out);
     match answer {
-        Written::Whole(size) => show_front(out, size),
-        Written::Refused(number) => tell_refused(out, number),
+        Written::Whole(size) => show_front(to, err, out, size),
+        Written::Refused(number) => tell_refused(err, out, number),
     }
 }
