@@ -115,7 +115,14 @@ fn show_answer(
 }
 
 // The first line, where this is the first call, and the cells.
-fn given(to: &mut impl Write, out: &mut [u8], file: &[u8], records: &[u16], before: u64, count: usize) -> bool
+fn given(
+    to: &mut impl Write,
+    out: &mut [u8],
+    file: &[u8],
+    records: &[u16],
+    before: u64,
+    count: usize,
+) -> bool
     requires { length out.old ≡ 65536 }
 {
     if before == 0 {
@@ -146,7 +153,14 @@ fn after(before: u64, count: usize) -> u64 {
     before
 }
 
-fn closed(to: &mut impl Write, out: &mut [u8], done: u64, room: u64, none_remain: bool, mark: Mark) -> Step
+fn closed(
+    to: &mut impl Write,
+    out: &mut [u8],
+    done: u64,
+    room: u64,
+    none_remain: bool,
+    mark: Mark,
+) -> Step
     requires { length out.old ≡ 65536 }
 {
     if none_remain {
@@ -191,7 +205,15 @@ fn call(
 }
 
 // Calls until the end or the room is reached. A loop has to end, so it counts down from a number that no run uses up.
-fn list(to: &mut impl Write, out: &mut [u8], file: &[u8], table: &mut [u16], records: &mut [u16], from: Mark, room: u64)
+fn list(
+    to: &mut impl Write,
+    out: &mut [u8],
+    file: &[u8],
+    table: &mut [u16],
+    records: &mut [u16],
+    from: Mark,
+    room: u64,
+)
     requires { (length out.old ≡ 65536) × (length records.old ≡ 4096 * record_size) }
 {
     let mut mark = from;
@@ -378,13 +400,7 @@ fn why_asked(
     }
 }
 
-fn run(
-    env: &impl Env,
-    to: &mut impl Write,
-    err: &mut impl Write,
-    text: &mut [u8],
-    file: &[u8],
-)
+fn run(env: &impl Env, to: &mut impl Write, err: &mut impl Write, text: &mut [u8], file: &[u8])
     requires { length text.old ≡ 65536 }
 {
     let words = count_words(env);

@@ -11,7 +11,7 @@ loop-i-preserved c =
     let h : l.i < length a.text.now = omega arith in (
       omega arith,
       laid-set l.invariant.1 (a.from + l.i) (get_or a.text.now l.i 0)
-      (omega (arith, length-take-le l.i a.text.now (omega arith)))
-      (omega arith)
-      (rw (add-one, take-suc a.text.now l.i 0)),
+          (omega (arith, length-take-le l.i a.text.now (omega arith)))
+          (omega arith)
+          (rw (add-one, take-suc a.text.now l.i 0)),
     )
