@@ -12,8 +12,10 @@
 // line follows a cell that was lost.
 #![tactic(auto)]
 
-ghost use Rattle.std.specs.Prelude.{◌*◌, ◌/◌, ◌≤◌, ◌≡◌, length};
+ghost use Rattle.std.specs.Prelude.{◌*◌, ◌/◌, ◌≤◌, ◌≡◌, IsTrue, length};
 ghost use Rattle.record.specs.Entries.{record_size};
+ghost use Rattle.std.specs.Io.KnownBytes.{Appends};
+ghost use Rattle.combine.specs.Listed.{cell_lines};
 
 use arrays::Checked;
 use input::read_full;
@@ -51,8 +53,9 @@ fn show_mark(to: &mut impl Write, out: &mut [u8], m: Mark) -> bool
 }
 
 // Writes the lines of the first `count` records.
-fn show_cells(to: &mut impl Write, out: &mut [u8], records: &[u16], count: usize) -> bool
+fn show_cells<W: Write>(to: &mut W, out: &mut [u8], records: &[u16], count: usize) -> bool
     requires { (length out.old ≡ 65536) × (count ≤ length records.now / record_size) }
+    ensures { IsTrue result → Appends (W.contents to.old) (W.contents to.new) (cell_lines records.now count) }
 {
     let mut at = 0;
     let mut i = 0;
@@ -135,8 +138,9 @@ fn given(
 }
 
 // The cells, where the room holds as many as the call says.
-fn show_given(to: &mut impl Write, out: &mut [u8], records: &[u16], count: usize) -> bool
+fn show_given<W: Write>(to: &mut W, out: &mut [u8], records: &[u16], count: usize) -> bool
     requires { length out.old ≡ 65536 }
+    ensures { IsTrue result → Appends (W.contents to.old) (W.contents to.new) (cell_lines records.now count) }
 {
     if count <= records.len() / SIZE {
         return show_cells(to, out, records, count);

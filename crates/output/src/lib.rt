@@ -2,7 +2,7 @@
 // first.
 #![tactic(auto)]
 
-ghost use Rattle.std.specs.Prelude.{◌+◌, ◌≤◌, ◌≡◌, IsTrue, [], ◌∷◌, ◌++◌, length, take};
+ghost use Rattle.std.specs.Prelude.{◌+◌, ◌≤◌, ◌≡◌, IsTrue, List, ℕ, [], ◌∷◌, ◌++◌, length, take};
 ghost use Rattle.std.specs.Io.KnownBytes.{Appends};
 ghost use Rattle.lines.specs.Text.{spaced, numbers};
 
@@ -43,6 +43,9 @@ pub fn show_numbers<W: Write>(to: &mut W, out: &mut [u8], word: &[u8], list: &[u
 // past the text where that failed.
 pub fn flushed<W: Write>(to: &mut W, out: &[u8], at: usize) -> usize
     requires { (length out.now ≡ 65536) × (at ≤ 65536) }
+    ensures { result ≤ 64000 → (w : List ℕ)
+        × Appends (W.contents to.old) (W.contents to.new) w
+        × (w ++ take result out.now ≡ take at out.now) }
 {
     if at <= 64000 {
         return at;
