@@ -14,7 +14,7 @@ one_more r i = rw add-one refl
 pub laid_front : {at r : ℕ} {xs old l : List ℕ} → Laid at xs old l → r ≡ at + length xs → take r l ≡ take at old ++ xs
 laid_front {at} {r} {xs} {old} {l} d e =
     let k : length (take at old ++ xs) ≡ at + length xs =
-        length-append (take at old) xs ∙ ap (λ (n : ℕ). n + length xs) (length-take-le at old (omega (arith, d.room)))
+    length-append (take at old) xs ∙ ap (λ (n : ℕ). n + length xs) (length-take-le at old (omega (arith, d.room)))
     in
     ap (λ (n : ℕ). take n l) e
     ∙ ap (take (at + length xs)) d.content

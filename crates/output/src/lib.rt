@@ -67,14 +67,17 @@ pub fn tell_lost<W: Write>(err: &mut W) {
     let _ = err.write_all(b"lost\n");
 }
 
-// Writes the first bytes of a room, or tells that they are lost.
-pub fn show_front<W: Write, E: Write>(to: &mut W, err: &mut E, room: &[u8], size: usize) {
+// Writes the first bytes of a room, or tells that they are lost; answers whether they were written.
+pub fn show_front<W: Write, E: Write>(to: &mut W, err: &mut E, room: &[u8], size: usize) -> bool
+    ensures { IsTrue result → Appends (W.contents to.old) (W.contents to.new) (take size room.now) }
+{
     if size <= room.len() {
         if show(to, room, size) {
-            return;
+            return true;
         }
     }
     tell_lost(err);
+    false
 }
 
 // Puts two numbers, each with a space before it.

@@ -35,7 +35,9 @@ fn show_packed(
 {
     let answer = packing_front::write_front(coordinates, numbers, parts, n, t, room);
     match answer {
-        Written::Whole(size) => show_front(to, err, room, size),
+        Written::Whole(size) => {
+            show_front(to, err, room, size);
+        }
         Written::Refused(number) => tell_refused(err, out, number),
     }
 }

@@ -10,8 +10,8 @@ invariant-loop-i g l = record {
   place : l.at ≤ 65536;
   room : length l.out ≡ length l.initial.out;
   lines : (w : List ℕ)
-    × Appends (g.W.Write.contents l.initial.to) (g.W.Write.contents l.to) w
-    × (w ++ take l.at l.out ≡ cell_lines l.records l.i);
+      × Appends (g.W.Write.contents l.initial.to) (g.W.Write.contents l.to) w
+      × (w ++ take l.at l.out ≡ cell_lines l.records l.i);
 }
 
 abbrev pub decreases-loop-i : goal.decreases-loop-i
