@@ -8,17 +8,22 @@
 // With `why`, a kind and eight numbers: why that tuple is not a cell (`why_job`).
 //
 // What is listed is the promise of `listing::portion`, and what a line says that of `lines`; here stand only the calls
-// and the writing. A write that fails ends a listing at once, so that no last line follows a cell that was lost.
+// and the writing, for any reader, writers and arguments. A write that fails ends a listing at once, so that no last
+// line follows a cell that was lost.
 #![tactic(auto)]
 
-ghost use Rattle.std.specs.Prelude.{◌*◌, ◌/◌, ◌≤◌, ◌≡◌, length};
+ghost use Rattle.std.specs.Prelude.{◌*◌, ◌/◌, ◌≤◌, ◌≡◌, IsTrue, length};
 ghost use Rattle.record.specs.Entries.{record_size};
+ghost use Rattle.std.specs.Io.KnownBytes.{Appends};
+ghost use Rattle.combine.specs.Listed.{cell_lines};
 
 use arrays::Checked;
-use libc::{STDERR_FILENO, STDIN_FILENO, STDOUT_FILENO};
+use input::read_full;
 use output::{flushed, show, show_number, show_numbers};
 use record::{Mark, SIZE, mark_of, numbers_of};
 use records::Answer;
+use std::env::{Env, FillError};
+use std::io::{Read, Write};
 
 // How many cells go into one call at most, and the entries of their records.
 const BATCH: usize = 4096;
@@ -28,33 +33,34 @@ const ROOM: usize = BATCH * SIZE;
 // ---- writing
 
 // Writes the first line: how many vertices and tetrahedra.
-fn show_mesh(out: &mut [u8], file: &[u8]) -> bool
+fn show_mesh(to: &mut impl Write, out: &mut [u8], file: &[u8]) -> bool
     requires { length out.old ≡ 65536 }
 {
     match arrays::header(file) {
         Checked::Accepted { vertices, tets } => {
             let counts = [(vertices % 65536) as u16, (tets % 65536) as u16];
-            show_numbers(out, b"mesh", &counts)
+            show_numbers(to, out, b"mesh", &counts)
         }
         Checked::Refused(_) => false,
     }
 }
 
-fn show_mark(out: &mut [u8], m: Mark) -> bool
+fn show_mark(to: &mut impl Write, out: &mut [u8], m: Mark) -> bool
     requires { length out.old ≡ 65536 }
 {
     let numbers = numbers_of(m);
-    show_numbers(out, b"mark", &numbers)
+    show_numbers(to, out, b"mark", &numbers)
 }
 
 // Writes the lines of the first `count` records.
-fn show_cells(out: &mut [u8], records: &[u16], count: usize) -> bool
+fn show_cells<W: Write>(to: &mut W, out: &mut [u8], records: &[u16], count: usize) -> bool
     requires { (length out.old ≡ 65536) × (count ≤ length records.now / record_size) }
+    ensures { IsTrue result → Appends (W.contents to.old) (W.contents to.new) (cell_lines records.now count) }
 {
     let mut at = 0;
     let mut i = 0;
     while i < count {
-        let next = flushed(out, at);
+        let next = flushed(to, out, at);
         if next > 64000 {
             return false;
         }
@@ -63,7 +69,7 @@ fn show_cells(out: &mut [u8], records: &[u16], count: usize) -> bool
         at = lines::put_cell(out, next, &records[from..end]);
         i += 1;
     }
-    show(STDOUT_FILENO, out, at)
+    show(to, out, at)
 }
 
 // ---- the listing
@@ -77,6 +83,7 @@ enum Step {
 
 // Writes what a call gave: the first line before the first cell, the cells, and at the end the last line.
 fn show_answer(
+    to: &mut impl Write,
     out: &mut [u8],
     file: &[u8],
     records: &[u16],
@@ -89,11 +96,11 @@ fn show_answer(
     match answer {
         Answer::Refused { number, written } => {
             if number != 12 {
-                show_number(STDOUT_FILENO, out, b"refused", number as u64);
+                show_number(to, out, b"refused", number as u64);
                 return Step::Done;
             }
-            if given(out, file, records, before, written) {
-                show_number(STDOUT_FILENO, out, b"refused", 12);
+            if given(to, out, file, records, before, written) {
+                show_number(to, out, b"refused", 12);
             }
             Step::Done
         }
@@ -102,33 +109,41 @@ fn show_answer(
             none_remain,
             mark,
         } => {
-            if !given(out, file, records, before, count) {
+            if !given(to, out, file, records, before, count) {
                 return Step::Done;
             }
-            closed(out, after(before, count), room, none_remain, mark)
+            closed(to, out, after(before, count), room, none_remain, mark)
         }
     }
 }
 
 // The first line, where this is the first call, and the cells.
-fn given(out: &mut [u8], file: &[u8], records: &[u16], before: u64, count: usize) -> bool
+fn given(
+    to: &mut impl Write,
+    out: &mut [u8],
+    file: &[u8],
+    records: &[u16],
+    before: u64,
+    count: usize,
+) -> bool
     requires { length out.old ≡ 65536 }
 {
     if before == 0 {
-        if !show_mesh(out, file) {
+        if !show_mesh(to, out, file) {
             return false;
         }
-        return show_given(out, records, count);
+        return show_given(to, out, records, count);
     }
-    show_given(out, records, count)
+    show_given(to, out, records, count)
 }
 
 // The cells, where the room holds as many as the call says.
-fn show_given(out: &mut [u8], records: &[u16], count: usize) -> bool
+fn show_given<W: Write>(to: &mut W, out: &mut [u8], records: &[u16], count: usize) -> bool
     requires { length out.old ≡ 65536 }
+    ensures { IsTrue result → Appends (W.contents to.old) (W.contents to.new) (cell_lines records.now count) }
 {
     if count <= records.len() / SIZE {
-        return show_cells(out, records, count);
+        return show_cells(to, out, records, count);
     }
     false
 }
@@ -142,15 +157,22 @@ fn after(before: u64, count: usize) -> u64 {
     before
 }
 
-fn closed(out: &mut [u8], done: u64, room: u64, none_remain: bool, mark: Mark) -> Step
+fn closed(
+    to: &mut impl Write,
+    out: &mut [u8],
+    done: u64,
+    room: u64,
+    none_remain: bool,
+    mark: Mark,
+) -> Step
     requires { length out.old ≡ 65536 }
 {
     if none_remain {
-        show_number(STDOUT_FILENO, out, b"end", done);
+        show_number(to, out, b"end", done);
         return Step::Done;
     }
     if room <= done {
-        show_mark(out, mark);
+        show_mark(to, out, mark);
         return Step::Done;
     }
     Step::More(mark, done)
@@ -169,6 +191,7 @@ fn batch(room: u64, done: u64) -> usize
 
 // One call of the library, and what it gave written.
 fn call(
+    to: &mut impl Write,
     out: &mut [u8],
     file: &[u8],
     table: &mut [u16],
@@ -182,18 +205,26 @@ fn call(
     let end = SIZE * batch(room, done);
     let part = &mut records[..end];
     let answer = listing::portion(file, mark, table, part);
-    show_answer(out, file, part, done, room, answer)
+    show_answer(to, out, file, part, done, room, answer)
 }
 
 // Calls until the end or the room is reached. A loop has to end, so it counts down from a number that no run uses up.
-fn list(out: &mut [u8], file: &[u8], table: &mut [u16], records: &mut [u16], from: Mark, room: u64)
+fn list(
+    to: &mut impl Write,
+    out: &mut [u8],
+    file: &[u8],
+    table: &mut [u16],
+    records: &mut [u16],
+    from: Mark,
+    room: u64,
+)
     requires { (length out.old ≡ 65536) × (length records.old ≡ 4096 * record_size) }
 {
     let mut mark = from;
     let mut done = 0;
     let mut turns = u64::MAX;
     while turns > 0 {
-        let step = call(out, file, table, records, mark, done, room);
+        let step = call(to, out, file, table, records, mark, done, room);
         let Step::More(next, count) = step else {
             return;
         };
@@ -218,12 +249,12 @@ fn record_room() -> [u16; ROOM]
 }
 
 // Lists the cells after a mark, at most so many.
-fn list_from(text: &mut [u8], file: &[u8], from: Mark, room: u64)
+fn list_from(to: &mut impl Write, text: &mut [u8], file: &[u8], from: Mark, room: u64)
     requires { length text.old ≡ 65536 }
 {
     let mut table = table_room();
     let mut records = record_room();
-    list(text, file, &mut table, &mut records, from, room);
+    list(to, text, file, &mut table, &mut records, from, room);
 }
 
 // ---- arguments
@@ -269,39 +300,59 @@ fn digit(b: u8) -> u64
 }
 
 // The number that argument `i` says, or nothing where it says none up to `most`.
-fn number_at(i: usize, most: u64) -> Word
+fn number_at(env: &impl Env, i: usize, most: u64) -> Word
     requires { most ≤ 4294967295 }
 {
-    let mut buf = io::buffer();
-    let n = os::arg(i, &mut buf);
-    number_in(&buf[..n], most)
+    let mut buf = word_room();
+    match env.arg(i, &mut buf) {
+        Ok(n) => number_in(&buf[..n], most),
+        Err(_) => Word::Bad,
+    }
+}
+
+// Room for the longest word, its length alone told.
+fn word_room() -> [u8; 4096]
+    ensures { 4096 ≡ length result }
+{
+    [0; 4096]
+}
+
+// How many arguments there are, the program's name among them; 12 stands for any more.
+fn count_words(env: &impl Env) -> usize {
+    let mut i = 0;
+    while i < 12 {
+        match env.arg(i, &mut []) {
+            Err(FillError::NotPresent) => return i,
+            _ => i += 1,
+        }
+    }
+    12
 }
 
 // A kind or a corner: argument `i`, or 65,536 where it is no number of 16 bits.
-fn corner(i: usize) -> u64
+fn corner(env: &impl Env, i: usize) -> u64
     ensures { result ≤ 65536 }
 {
-    let w = number_at(i, 65535);
+    let w = number_at(env, i, 65535);
     let Word::Number(x) = w else {
         return 65536;
     };
     if x < 65536 { x } else { 65536 }
 }
 
-fn complain() {
-    io::write_all(
-        STDERR_FILENO,
+fn complain(err: &mut impl Write) {
+    let _ = err.write_all(
         b"combine: no words, pack, unpack, ten words (a kind, eight numbers and a room), or why, a kind and eight numbers\n",
     );
 }
 
 // Fills a kind and eight numbers from the arguments, from `first` on, and answers whether each is one of 16 bits.
-fn read_numbers(numbers: &mut [u16], first: usize) -> bool
+fn read_numbers(env: &impl Env, numbers: &mut [u16], first: usize) -> bool
     requires { (length numbers.old ≡ 9) × (first ≤ 2) }
 {
     let mut i = 0;
     while i < numbers.len() {
-        let x = corner(first + i);
+        let x = corner(env, first + i);
         if x > 65535 {
             return false;
         }
@@ -312,41 +363,54 @@ fn read_numbers(numbers: &mut [u16], first: usize) -> bool
 }
 
 // The portion that the arguments ask for.
-fn list_asked(text: &mut [u8], file: &[u8])
+fn list_asked(
+    env: &impl Env,
+    to: &mut impl Write,
+    err: &mut impl Write,
+    text: &mut [u8],
+    file: &[u8],
+)
     requires { length text.old ≡ 65536 }
 {
-    let w = number_at(10, 4294967295);
+    let w = number_at(env, 10, 4294967295);
     let Word::Number(room) = w else {
-        complain();
+        complain(err);
         return;
     };
     let mut numbers = [0u16; 9];
-    if read_numbers(&mut numbers, 1) {
-        list_from(text, file, mark_of(numbers), room);
+    if read_numbers(env, &mut numbers, 1) {
+        list_from(to, text, file, mark_of(numbers), room);
     } else {
-        complain();
+        complain(err);
     }
 }
 
 // What is found of the tuple that the arguments name.
-fn why_asked(text: &mut [u8], file: &[u8])
+fn why_asked(
+    env: &impl Env,
+    to: &mut impl Write,
+    err: &mut impl Write,
+    text: &mut [u8],
+    file: &[u8],
+)
     requires { length text.old ≡ 65536 }
 {
     let mut n = [0u16; 9];
-    if read_numbers(&mut n, 2) {
+    if read_numbers(env, &mut n, 2) {
         let tuple = [n[1], n[2], n[3], n[4], n[5], n[6], n[7], n[8]];
-        why_job::tell(text, file, n[0], tuple);
+        why_job::tell(to, err, text, file, n[0], tuple);
     } else {
-        complain();
+        complain(err);
     }
 }
 
-fn run(text: &mut [u8], file: &[u8])
+fn run(env: &impl Env, to: &mut impl Write, err: &mut impl Write, text: &mut [u8], file: &[u8])
     requires { length text.old ≡ 65536 }
 {
-    let words = os::arg_count();
+    let words = count_words(env);
     if words == 1 {
         list_from(
+            to,
             text,
             file,
             mark_of([65535, 0, 0, 0, 0, 0, 0, 0, 0]),
@@ -355,10 +419,10 @@ fn run(text: &mut [u8], file: &[u8])
         return;
     }
     if words == 11 {
-        list_asked(text, file);
+        list_asked(env, to, err, text, file);
         return;
     }
-    complain();
+    complain(err);
 }
 
 // Whether a text is this word.
@@ -377,15 +441,17 @@ fn is_word(text: &[u8], word: &[u8]) -> bool {
 }
 
 // Whether the first argument is this word, and so many follow it.
-fn is_asked(word: &[u8], more: usize) -> bool
+fn is_asked(env: &impl Env, word: &[u8], more: usize) -> bool
     requires { more ≤ 9 }
 {
-    if os::arg_count() != 2 + more {
+    if count_words(env) != 2 + more {
         return false;
     }
-    let mut buf = io::buffer();
-    let n = os::arg(1, &mut buf);
-    is_word(&buf[..n], word)
+    let mut buf = word_room();
+    match env.arg(1, &mut buf) {
+        Ok(n) => is_word(&buf[..n], word),
+        Err(_) => false,
+    }
 }
 
 // Room for the longest file and one byte more, its length alone told.
@@ -395,28 +461,45 @@ fn file_room() -> [u8; 26649]
     [0; 26649]
 }
 
-// Does what the arguments ask for, with a text to write lines to and room for a file.
-fn work(text: &mut [u8], bytes: &mut [u8])
-    requires { length text.old ≡ 65536 }
+// Room for the text that lines are written to, its length alone told.
+fn text_room() -> [u8; 65536]
+    ensures { 65536 ≡ length result }
 {
-    if is_asked(b"pack", 0) {
-        pack_job::pack(text, bytes);
-        return;
-    }
-    let n = io::read_full(STDIN_FILENO, bytes);
-    if is_asked(b"unpack", 0) {
-        unpack_job::unpack(text, &bytes[..n]);
-        return;
-    }
-    if is_asked(b"why", 9) {
-        why_asked(text, &bytes[..n]);
-        return;
-    }
-    run(text, &bytes[..n]);
+    [0; 65536]
 }
 
-fn main() {
-    let mut text = io::large_buffer();
+// Does what the arguments ask for, with a text to write lines to and room for a file.
+fn work(
+    env: &impl Env,
+    from: &mut impl Read,
+    to: &mut impl Write,
+    err: &mut impl Write,
+    text: &mut [u8],
+    bytes: &mut [u8],
+)
+    requires { length text.old ≡ 65536 }
+{
+    if is_asked(env, b"pack", 0) {
+        pack_job::pack(from, to, err, text, bytes);
+        return;
+    }
+    let n = read_full(from, bytes);
+    if is_asked(env, b"unpack", 0) {
+        unpack_job::unpack(to, err, text, &bytes[..n]);
+        return;
+    }
+    if is_asked(env, b"why", 9) {
+        why_asked(env, to, err, text, &bytes[..n]);
+        return;
+    }
+    run(env, to, err, text, &bytes[..n]);
+}
+
+fn main(rt: HostRuntime) {
+    let mut text = text_room();
     let mut bytes = file_room();
-    work(&mut text, &mut bytes);
+    let mut from = rt.stdin();
+    let mut to = rt.stdout();
+    let mut err = rt.stderr();
+    work(&rt, &mut from, &mut to, &mut err, &mut text, &mut bytes);
 }

@@ -9,21 +9,20 @@ use native.Mathlib.Omega.{arith}
 use borrow.Author.Tests.{ltb-true, ltb-false}
 use lib.Dec.{ltb}
 use lib.ListN.{length, length-append}
-use Rattle.io.specs.Digits.{last_digits, IsDigitCount}
-use Rattle.lines.specs.Text.{places_in, decimal}
+use Rattle.lines.specs.Text.{last_digits, IsDigitCount, places_in, decimal}
 
 -- no two counts are both the fewest
-above : (n k j : ℕ) → IsDigitCount 10 1 n k → IsDigitCount 10 1 n j → k < j → ⊥
+above : (n k j : ℕ) → IsDigitCount n k → IsDigitCount n j → k < j → ⊥
 above n k j a b h =
     let low : 10 ^ (j - 1) ≤ n = b.2 (omega arith) in
     let mono : 10 ^ k ≤ 10 ^ (j - 1) = pow-le-pow_right (omega arith) (omega arith) in
     omega (arith, a.1)
 
-pub fewest-once : (n k j : ℕ) → IsDigitCount 10 1 n k → IsDigitCount 10 1 n j → k ≡ j
+pub fewest-once : (n k j : ℕ) → IsDigitCount n k → IsDigitCount n j → k ≡ j
 fewest-once n k j a b = omega (arith, above n k j a b, above n j k b a)
 
 -- one digit more in front of k of n / 10
-step : (n k : ℕ) → 10 ≤ n → IsDigitCount 10 1 (n / 10) k → IsDigitCount 10 1 n (suc k)
+step : (n k : ℕ) → 10 ≤ n → IsDigitCount (n / 10) k → IsDigitCount n (suc k)
 step n k t f =
     let e : 10 ^ suc k ≡ 10 * 10 ^ k = pow-succ' 10 k in
     let d : n / 10 * 10 + n % 10 ≡ n = div-add-mod' n 10 in
@@ -41,18 +40,18 @@ step n k t f =
         let r : suc (suc (suc j)) - 1 ≡ suc (suc j) = omega arith in
         rw r (omega arith)
 
-pub places-fewest : (k n : ℕ) → n < 10 ^ suc k → IsDigitCount 10 1 n (places_in k n)
+pub places-fewest : (k n : ℕ) → n < 10 ^ suc k → IsDigitCount n (places_in k n)
 unfolding places_in
 places-fewest zero n h = (omega arith, h, λ (l : 1 < 1). omega arith)
 places-fewest (suc k) n h = go (ltb n 10) refl (places-fewest k (n / 10) (omega (arith, pow-succ' 10 (suc k), div-add-mod' n 10)))
   where
-    go : (b : Bool) → ltb n 10 ≡ b → IsDigitCount 10 1 (n / 10) (places_in k (n / 10)) → IsDigitCount 10 1 n (cond b 1 (suc (places_in k (n / 10))))
+    go : (b : Bool) → ltb n 10 ≡ b → IsDigitCount (n / 10) (places_in k (n / 10)) → IsDigitCount n (cond b 1 (suc (places_in k (n / 10))))
     go true e f = (omega arith, ltb-true n 10 e, λ (l : 1 < 1). omega arith)
     go false e f = step n (places_in k (n / 10)) (ltb-false n 10 e) f
 
-pub digits_length : (k n : ℕ) → length (last_digits 10 k n) ≡ k
+pub digits_length : (k n : ℕ) → length (last_digits k n) ≡ k
 digits_length zero n = refl
-digits_length (suc k) n = omega (arith, length-append (last_digits 10 k (n / 10)) (last_digits 10 1 n), digits_length k (n / 10))
+digits_length (suc k) n = omega (arith, length-append (last_digits k (n / 10)) (last_digits 1 n), digits_length k (n / 10))
 
 pub places-most : (k n : ℕ) → places_in k n ≤ suc k
 unfolding places_in
@@ -63,11 +62,15 @@ places-most (suc k) n = go (ltb n 10) (places-most k (n / 10))
     go true h = omega arith
     go false h = omega arith
 
--- what `io::decimal` answers of a 64-bit number
-module _ {n r : ℕ} {text : List ℕ} (small : n < 18446744073709551616) (f : IsDigitCount 10 1 n r) (e : text ≡ last_digits 10 r n) where
-  pub decimal-is : text ≡ decimal n
+-- the digits of a 64-bit number, where there are the fewest
+module _ {n r : ℕ} (small : n < 18446744073709551616) (f : IsDigitCount n r) where
+  pub decimal-is : {text : List ℕ} → text ≡ last_digits r n → text ≡ decimal n
   unfolding decimal
-  decimal-is = e ∙ ap (λ k. last_digits 10 k n) (fewest-once n r (places_in 19 n) f (places-fewest 19 n (omega arith)))
+  decimal-is e = e ∙ ap (λ k. last_digits k n) (fewest-once n r (places_in 19 n) f (places-fewest 19 n (omega arith)))
+
+  -- twenty hold it
+  pub fewest-most : r ≤ 20
+  fewest-most = rw (fewest-once n r (places_in 19 n) f (places-fewest 19 n (omega arith))) (places-most 19 n)
 
 -- a number below a power of 10 has no more digits than that says
 pub decimal-short : (k n : ℕ) → k ≤ 19 → n < 10 ^ suc k → length (decimal n) ≤ suc k

@@ -1,9 +1,17 @@
 -- The text of a listing, as ASCII codes.
 -- Assumes nothing.
-use Rattle.std.specs.Prelude.{ℕ, zero, suc, ◌+◌, ◌*◌, ◌/◌, min, cond, List, [], ◌∷◌, ◌++◌, ltb, get_or, take, drop}
+use Rattle.std.specs.Prelude.{ℕ, zero, suc, ◌+◌, ◌-◌, ◌*◌, ◌/◌, ◌%◌, ◌^◌, ◌≤◌, ◌<◌, min, cond, List, [], ◌∷◌, ◌++◌, ltb, get_or, take, drop}
 use Rattle.base.specs.Lists.{spread}
 use Rattle.record.specs.Entries.{corner_places, tet_places, count_at, tets_at}
-use Rattle.io.specs.Digits.{last_digits}
+
+-- the last k decimal digits of a number, in their order
+abbrev pub last_digits : ℕ → ℕ → List ℕ
+last_digits zero n = []
+last_digits (suc k) n = last_digits k (n / 10) ++ (48 + n % 10) ∷ []
+
+-- k are the fewest digits that hold a number, and one at least
+abbrev pub IsDigitCount : ℕ → ℕ → Type 0
+IsDigitCount n k = (1 ≤ k) × (n < 10 ^ k) × (1 < k → 10 ^ (k - 1) ≤ n)
 
 -- how many decimal digits a number of at most k + 1 digits has
 unfoldable pub places_in : ℕ → ℕ → ℕ
@@ -12,7 +20,7 @@ places_in (suc k) n = cond (ltb n 10) 1 (suc (places_in k (n / 10)))
 
 -- the decimal digits of a number below 10 ^ 20, with no zero in front
 unfoldable pub decimal : ℕ → List ℕ
-decimal n = last_digits 10 (places_in 19 n) n
+decimal n = last_digits (places_in 19 n) n
 
 -- a space, and the number
 unfoldable pub spaced : ℕ → List ℕ

@@ -1,10 +1,10 @@
 // The lines of a listing as text, put into a lent slice.
 #![tactic(auto)]
 
-ghost use Rattle.std.specs.Prelude.{◌≡◌, ◌+◌, ◌*◌, ◌≤◌, min, length};
+ghost use Rattle.std.specs.Prelude.{◌≡◌, ◌+◌, ◌*◌, ◌≤◌, min, length, take};
 ghost use Rattle.base.specs.Laid.{Laid};
 ghost use Rattle.record.specs.Entries.{record_size};
-ghost use Rattle.lines.specs.Text.{decimal, spaced, numbers, corners_text, tets_text, cell_line, corners_most, tets_most, line_most};
+ghost use Rattle.lines.specs.Text.{IsDigitCount, last_digits, decimal, spaced, numbers, corners_text, tets_text, cell_line, corners_most, tets_most, line_most};
 
 use record::{COUNT_AT, TET_PLACES, TETS_AT};
 
@@ -22,6 +22,33 @@ pub fn put_text(out: &mut [u8], from: usize, text: &[u8]) -> usize
     from + i
 }
 
+// How many decimal digits a number has.
+fn digit_count(x: u64) -> usize
+    ensures { IsDigitCount x result }
+{
+    let mut k = 1;
+    let mut rest = x / 10;
+    while rest > 0 {
+        rest /= 10;
+        k += 1;
+    }
+    k
+}
+
+// Puts the last k digits of a number at the start of a room.
+fn put_digits(out: &mut [u8], k: usize, x: u64)
+    requires { k ≤ length out.old }
+    ensures { take k out.new ≡ last_digits k x }
+{
+    let mut i = k;
+    let mut rest = x;
+    while i > 0 {
+        i -= 1;
+        out[i] = 48 + (rest % 10) as u8;
+        rest /= 10;
+    }
+}
+
 // Puts the digits of a number; there is room for any.
 pub fn put_decimal(out: &mut [u8], from: usize, x: u64) -> usize
     requires { from + 20 ≤ length out.old }
@@ -29,7 +56,8 @@ pub fn put_decimal(out: &mut [u8], from: usize, x: u64) -> usize
     ensures text { Laid from (decimal x) out.old out.new }
 {
     let mut digits = [0u8; 20];
-    let k = io::decimal(x, &mut digits);
+    let k = digit_count(x);
+    put_digits(&mut digits, k, x);
     put_text(out, from, &digits[..k])
 }
 

@@ -1,75 +1,83 @@
-// Lines on standard output and on standard error. A line is put into a lent text of 65,536 bytes first.
+// Lines written to a writer, as standard output and standard error are. A line is put into a lent text of 65,536 bytes
+// first.
 #![tactic(auto)]
 
-ghost use Rattle.std.specs.Prelude.{◌+◌, ◌≤◌, ◌≡◌, length};
+ghost use Rattle.std.specs.Prelude.{◌+◌, ◌≤◌, ◌≡◌, IsTrue, List, ℕ, [], ◌∷◌, ◌++◌, length, take};
+ghost use Rattle.std.specs.Io.KnownBytes.{Appends};
+ghost use Rattle.lines.specs.Text.{spaced, numbers};
 
-use libc::{STDERR_FILENO, STDOUT_FILENO};
 use lines::{put_number, put_numbers, put_text};
+use std::io::Write;
 
-// Writes the first `at` bytes of a text to standard output or standard error, and answers whether all were taken.
-pub fn show(fd: i32, out: &[u8], at: usize) -> bool
+// Writes the first `at` bytes of a text, and answers whether all were taken.
+pub fn show<W: Write>(to: &mut W, out: &[u8], at: usize) -> bool
     requires { at ≤ length out.now }
+    ensures { IsTrue result → Appends (W.contents to.old) (W.contents to.new) (take at out.now) }
 {
-    io::write_all(fd, &out[..at])
+    to.write_all(&out[..at]).is_ok()
 }
 
 // Writes a line of a word and a number.
-pub fn show_number(fd: i32, out: &mut [u8], word: &[u8], x: u64) -> bool
+pub fn show_number<W: Write>(to: &mut W, out: &mut [u8], word: &[u8], x: u64) -> bool
     requires { (length out.old ≡ 65536) × (length word.now ≤ 10) }
+    ensures { IsTrue result → Appends (W.contents to.old) (W.contents to.new) (word.now ++ spaced x ++ 10 ∷ []) }
 {
     let a = put_text(out, 0, word);
     let b = put_number(out, a, x);
     let c = put_text(out, b, b"\n");
-    show(fd, out, c)
+    show(to, out, c)
 }
 
 // Writes a line of a word and some numbers.
-pub fn show_numbers(out: &mut [u8], word: &[u8], numbers: &[u16]) -> bool
-    requires { (length out.old ≡ 65536) × (length word.now ≤ 10) × (length numbers.now ≤ 10) }
+pub fn show_numbers<W: Write>(to: &mut W, out: &mut [u8], word: &[u8], list: &[u16]) -> bool
+    requires { (length out.old ≡ 65536) × (length word.now ≤ 10) × (length list.now ≤ 10) }
+    ensures { IsTrue result → Appends (W.contents to.old) (W.contents to.new) (word.now ++ numbers list.now ++ 10 ∷ []) }
 {
     let a = put_text(out, 0, word);
-    let b = put_numbers(out, a, numbers);
+    let b = put_numbers(out, a, list);
     let c = put_text(out, b, b"\n");
-    show(STDOUT_FILENO, out, c)
+    show(to, out, c)
 }
 
 // Writes the text where it has no room for a line more, and answers where the next goes;
 // past the text where that failed.
-pub fn flushed(out: &[u8], at: usize) -> usize
+pub fn flushed<W: Write>(to: &mut W, out: &[u8], at: usize) -> usize
     requires { (length out.now ≡ 65536) × (at ≤ 65536) }
+    ensures { result ≤ 64000 → (w : List ℕ)
+        × Appends (W.contents to.old) (W.contents to.new) w
+        × (w ++ take result out.now ≡ take at out.now) }
 {
     if at <= 64000 {
         return at;
     }
-    if show(STDOUT_FILENO, out, at) {
-        0
-    } else {
-        65537
-    }
+    if show(to, out, at) { 0 } else { 65537 }
 }
 
 // ---- a job's answer; on standard error, why there is none
 
 // That it was refused, with this number.
-pub fn tell_refused(out: &mut [u8], number: u8)
+pub fn tell_refused<W: Write>(err: &mut W, out: &mut [u8], number: u8)
     requires { length out.old ≡ 65536 }
 {
-    show_number(STDERR_FILENO, out, b"refused", number as u64);
+    show_number(err, out, b"refused", number as u64);
 }
 
 // That it could not be written.
-pub fn tell_lost() {
-    io::write_all(STDERR_FILENO, b"lost\n");
+pub fn tell_lost<W: Write>(err: &mut W) {
+    let _ = err.write_all(b"lost\n");
 }
 
-// Writes the first bytes of a room to standard output, or tells that they are lost.
-pub fn show_front(room: &[u8], size: usize) {
+// Writes the first bytes of a room, or tells that they are lost; answers whether they were written.
+pub fn show_front<W: Write, E: Write>(to: &mut W, err: &mut E, room: &[u8], size: usize) -> bool
+    ensures { IsTrue result → Appends (W.contents to.old) (W.contents to.new) (take size room.now) }
+{
     if size <= room.len() {
-        if show(STDOUT_FILENO, room, size) {
-            return;
+        if show(to, room, size) {
+            return true;
         }
     }
-    tell_lost();
+    tell_lost(err);
+    false
 }
 
 // Puts two numbers, each with a space before it.
@@ -82,12 +90,19 @@ fn put_two(out: &mut [u8], at: usize, x: u64, y: u64) -> usize
 }
 
 // That a text is no lists: its fault, the line, how many numbers stand before it and how many are wanted.
-pub fn tell_wrong(out: &mut [u8], fault: u8, line: u64, before: u64, wanted: u64)
+pub fn tell_wrong<W: Write>(
+    err: &mut W,
+    out: &mut [u8],
+    fault: u8,
+    line: u64,
+    before: u64,
+    wanted: u64,
+)
     requires { length out.old ≡ 65536 }
 {
     let a = put_text(out, 0, b"wrong");
     let b = put_two(out, a, fault as u64, line);
     let c = put_two(out, b, before, wanted);
     let d = put_text(out, c, b"\n");
-    show(STDERR_FILENO, out, d);
+    show(err, out, d);
 }

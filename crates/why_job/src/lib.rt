@@ -14,27 +14,29 @@
 ghost use Rattle.std.specs.Prelude.{◌≡◌, length};
 
 use arrays::Checked;
-use libc::STDOUT_FILENO;
 use looking::{Asked, Seen, look};
 use output::{show_number, show_numbers, tell_lost, tell_refused};
 use reasons::Finding;
+use std::io::Write;
 
-fn show_seen(out: &mut [u8], s: Seen) -> bool
+fn show_seen(to: &mut impl Write, out: &mut [u8], s: Seen) -> bool
     requires { (length out.old ≡ 65536) × (10 ≡ length s.line) }
 {
     let Seen { line, box_size } = s;
-    if !show_numbers(out, b"seen", &line) {
+    if !show_numbers(to, out, b"seen", &line) {
         return false;
     }
-    show_number(STDOUT_FILENO, out, b"box", box_size)
+    show_number(to, out, b"box", box_size)
 }
 
-fn show_found(out: &mut [u8], file: &[u8], asked: Asked) -> bool
+fn show_found(to: &mut impl Write, out: &mut [u8], file: &[u8], asked: Asked) -> bool
     requires { length out.old ≡ 65536 }
 {
     let head = arrays::header(file);
     match head {
-        Checked::Accepted { vertices, tets } => show_seen(out, look(file, vertices, tets, asked)),
+        Checked::Accepted { vertices, tets } => {
+            show_seen(to, out, look(file, vertices, tets, asked))
+        }
         Checked::Refused(_) => false,
     }
 }
@@ -48,27 +50,34 @@ fn entries(found: Finding) -> [u16; 10]
     answer
 }
 
-fn show_answer(out: &mut [u8], file: &[u8], asked: Asked) -> bool
+fn show_answer(to: &mut impl Write, out: &mut [u8], file: &[u8], asked: Asked) -> bool
     requires { length out.old ≡ 65536 }
 {
     let Asked { kind, tuple, found } = asked;
     let answer = entries(found);
-    if !show_numbers(out, b"why", &answer) {
+    if !show_numbers(to, out, b"why", &answer) {
         return false;
     }
-    show_found(out, file, Asked { kind, tuple, found })
+    show_found(to, out, file, Asked { kind, tuple, found })
 }
 
 // The job, of the file that was read, for a kind and eight numbers.
-pub fn tell(out: &mut [u8], file: &[u8], kind: u16, tuple: [u16; 8])
+pub fn tell(
+    to: &mut impl Write,
+    err: &mut impl Write,
+    out: &mut [u8],
+    file: &[u8],
+    kind: u16,
+    tuple: [u16; 8],
+)
     requires { length out.old ≡ 65536 }
 {
     let found = why::explain(file, kind, &tuple);
     match found {
-        Finding::Refused(number) => tell_refused(out, number),
+        Finding::Refused(number) => tell_refused(err, out, number),
         _ => {
-            if !show_answer(out, file, Asked { kind, tuple, found }) {
-                tell_lost();
+            if !show_answer(to, out, file, Asked { kind, tuple, found }) {
+                tell_lost(err);
             }
         }
     }

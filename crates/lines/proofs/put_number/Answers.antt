@@ -1,10 +1,13 @@
--- `lines::put_number` meets its contract. Assumes nothing.
-use mathlib.Core.Path.{refl}
-use native.Mathlib.Omega.{arith}
+-- The number is laid behind the space.
+use Rattle.std.proofs.Common.{refl, arith}
 use Rattle.base.proofs.Lay.{laid_more}
 use Rattle.lines.specs.Text.{spaced}
 use Rattle.lines.proofs.put_number.Goals as goal
 
-pub returns : goal.returns
+pub returns-clause-next : goal.returns-clause-next
 unfolding spaced
-returns c = let x = c.args.x in let d = c.put_decimal.ensures in let t = c.put_text-at.ensures in record { next = omega (arith, d.next, t.next); text = laid_more t.text _ t.next d.text refl }
+returns-clause-next c = omega (arith, c.put_decimal.ensures.next, c.put_text-at.ensures.next)
+
+pub returns-clause-text : goal.returns-clause-text
+unfolding spaced
+returns-clause-text c = laid_more c.put_text-at.ensures.text _ c.put_text-at.ensures.next c.put_decimal.ensures.text refl

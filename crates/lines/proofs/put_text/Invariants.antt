@@ -1,7 +1,5 @@
--- `lines::put_text` meets its contract. The loop's invariant: what it has passed of the text is laid from `from` on.
--- Assumes nothing.
-use Prim.Native.Nat.{◌-◌, ◌≤◌}
-use lib.ListN.{length, take}
+-- What the loop has passed of the text is laid from `from` on.
+use Rattle.std.proofs.Common.{◌-◌, ◌≤◌, length, take}
 use Rattle.base.specs.Laid.{Laid}
 use Rattle.lines.proofs.put_text.Given as goal
 

@@ -1,0 +1,18 @@
+-- The line is laid at the front of the text, and all of it is written.
+use Rattle.std.proofs.Common.{arith}
+use Rattle.lines.proofs.Numbers.{spaced-length}
+use Rattle.output.proofs.Line.{three}
+use Rattle.output.proofs.show_number.Goals as goal
+
+pub put_text-c-requires : goal.put_text-c-requires
+put_text-c-requires g c =
+    let t = c.put_text-a.ensures in
+    let n = c.put_number-b.ensures in
+    omega (arith, t.next, t.text.same, n.next, n.text.same, spaced-length c.args.x)
+
+pub returns : goal.returns
+returns g c =
+    let t = c.put_text-a.ensures in
+    let n = c.put_number-b.ensures in
+    let e = c.put_text-c.ensures in
+    λ h. rw (three t.text t.next n.text n.next e.text e.next) at (c.show.ensures h)
