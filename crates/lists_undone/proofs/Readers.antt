@@ -8,8 +8,7 @@ use native.Mathlib.Omega.{arith}
 use borrow.Author.Tests.{ne_eqb, lt-ltb, le-ltb, le-leb, lt-leb}
 use lib.Dec.{eqb}
 use lib.IntN.{ℤ, pos, negsuc, nat_abs}
-use Rattle.io.specs.Digits.{hex_digit_ascii, last_digits}
-use Rattle.lines.specs.Text.{places_in, decimal}
+use Rattle.lines.specs.Text.{last_digits, places_in, decimal}
 use Rattle.lines.proofs.Digits.{places-fewest}
 use Rattle.writing_lists.specs.Printed.{signed_text}
 use Rattle.reading_words.specs.declared.Reader.{Reader}
@@ -49,9 +48,6 @@ module _ (d : ℕ) (h : d < 10) where
   unfolding sized
   digit_sizes v g = rw (digit-is, le-ltb 429496729 v g) (omega arith)
 
-  glyph_is : hex_digit_ascii d ≡ 48 + d
-  glyph_is = rw (lt-ltb d 10 h)
-
 -- ---- digits
 
 -- the word's form behind j digits
@@ -82,7 +78,7 @@ module _ (l k n t : ℕ) (cs : List ℤ) (ls ps : List ℕ) where
   digit_grows f m v d g h s =
       grows f m v (48 + d) (digit-ends d h) ∙ rw (digit-forms d h f g, digit_signs d h m, digit_sizes d h v s)
 
-  digits_read : (j f : ℕ) (m : Bool) (v x : ℕ) → f < 3 → x < 10 ^ j → v * 10 ^ j + x < 4294967296 → read_all (last_digits 10 j x) (at f m v) ≡ at (after_digits j f) m (v * 10 ^ j + x)
+  digits_read : (j f : ℕ) (m : Bool) (v x : ℕ) → f < 3 → x < 10 ^ j → v * 10 ^ j + x < 4294967296 → read_all (last_digits j x) (at f m v) ≡ at (after_digits j f) m (v * 10 ^ j + x)
   digits_read zero f m v x g h s = ap (at f m) (omega arith)
   digits_read (suc j) f m v x g h s =
       let d : x / 10 * 10 + x % 10 ≡ x = div-add-mod' x 10 in
@@ -90,9 +86,8 @@ module _ (l k n t : ℕ) (cs : List ℤ) (ls ps : List ℕ) where
       let e : 10 ^ suc j ≡ 10 * 10 ^ j = pow-succ' 10 j in
       let w : v * 10 ^ suc j ≡ 10 * (v * 10 ^ j) = scaled v j in
       let y = v * 10 ^ j + x / 10 in
-      read-pieces (last_digits 10 j (x / 10)) (hex_digit_ascii (x % 10) ∷ []) (at f m v)
-      ∙ ap (read1 (hex_digit_ascii (x % 10))) (digits_read j f m v (x / 10) g (omega arith) (omega arith))
-      ∙ ap (λ b. read1 b (at (after_digits j f) m y)) (glyph_is (x % 10) r)
+      read-pieces (last_digits j (x / 10)) ((48 + x % 10) ∷ []) (at f m v)
+      ∙ ap (read1 (48 + x % 10)) (digits_read j f m v (x / 10) g (omega arith) (omega arith))
       ∙ digit_grows (after_digits j f) m y (x % 10) (after-form j f g) r (omega arith)
       ∙ ap (at 2 m) (omega arith)
 
