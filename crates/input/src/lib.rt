@@ -49,7 +49,8 @@ pub fn read_text<R: Read>(
 ) -> Said
     ensures { (x : List ℕ) × (r : Reader)
         × Consumes (R.remaining from.old) (R.remaining from.new) x
-        × (reading r coordinates.new numbers.new parts.new ≡ read_text x (reading begun coordinates.old numbers.old parts.old))
+        × (reading r coordinates.new numbers.new parts.new
+        ≡ read_text x (reading begun coordinates.old numbers.old parts.old))
         × (result ≡ said_by r) }
 {
     let mut r = begin();

@@ -20,7 +20,8 @@ pub fn show<W: Write>(to: &mut W, out: &[u8], at: usize) -> bool
 // Writes a line of a word and a number.
 pub fn show_number<W: Write>(to: &mut W, out: &mut [u8], word: &[u8], x: u64) -> bool
     requires { (length out.old ≡ 65536) × (length word.now ≤ 10) }
-    ensures { IsTrue result → Appends (W.contents to.old) (W.contents to.new) (word.now ++ spaced x ++ 10 ∷ []) }
+    ensures { IsTrue result
+        → Appends (W.contents to.old) (W.contents to.new) (word.now ++ spaced x ++ 10 ∷ []) }
 {
     let a = put_text(out, 0, word);
     let b = put_number(out, a, x);
@@ -31,7 +32,8 @@ pub fn show_number<W: Write>(to: &mut W, out: &mut [u8], word: &[u8], x: u64) ->
 // Writes a line of a word and some numbers.
 pub fn show_numbers<W: Write>(to: &mut W, out: &mut [u8], word: &[u8], list: &[u16]) -> bool
     requires { (length out.old ≡ 65536) × (length word.now ≤ 10) × (length list.now ≤ 10) }
-    ensures { IsTrue result → Appends (W.contents to.old) (W.contents to.new) (word.now ++ numbers list.now ++ 10 ∷ []) }
+    ensures { IsTrue result
+        → Appends (W.contents to.old) (W.contents to.new) (word.now ++ numbers list.now ++ 10 ∷ []) }
 {
     let a = put_text(out, 0, word);
     let b = put_numbers(out, a, list);
