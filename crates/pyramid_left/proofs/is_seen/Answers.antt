@@ -1,11 +1,8 @@
--- `pyramid_left::is_seen` meets its contract. Assumes nothing.
+-- `pyramid_left::is_seen` meets its contract: a tuple that is a leaf is a pyramid, and by the test before it is not below
+-- the bound. Assumes nothing.
 use mathlib.Core.Path.{sym, ◌∙◌}
-use mathlib.Core.Bool.{true≢false}
 use native.Mathlib.Omega.{arith}
 use Rattle.pyramid_left.proofs.is_seen.Goals as goal
 
-pub returns-then-tuple-lo : goal.returns-then-tuple-lo
-returns-then-tuple-lo c y = absurd (true≢false (sym y))
-
 pub returns : goal.returns
-returns c y = record { tuple = c.args.tuple; leaf = sym c.is_leaf-v.ensures.yes_value ∙ y; first = omega (arith, c.if-tuple-lo.false) }
+returns c y = record { tuple = c.args.tuple; leaf = sym c.is_leaf-v.ensures.yes_value ∙ y; first = omega arith }
