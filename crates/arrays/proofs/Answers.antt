@@ -1,68 +1,57 @@
 -- What an answer tells of the first refusal, and the file's refusal from that of its header. Assumes nothing.
-use mathlib.Core.Path.{◌≡◌, refl, sym, ◌∙◌}
+use mathlib.Core.Path.{◌≡◌, refl, sym, ap, ◌∙◌}
 use mathlib.Core.List.{List, ◌++◌}
 use Prim.Native.Nat.{ℕ, ◌<◌}
-use native.Mathlib.Decide.{dec_lt}
 use native.Mathlib.Omega.{arith}
-use borrow.Author.Tests.{eq-eqb, ne_eqb, not-false}
+use borrow.Author.Tests.{not-false}
+use Rattle.std.specs.Prelude.{Err}
 use Rattle.base.specs.Refusals.{first_of}
 use Rattle.base.proofs.Refusals.{Passed, passed, first_past, first-told}
+use Rattle.refusals.specs.declared.Refusal.{Refusal}
+use Rattle.refusals.specs.Named.{number_of}
+use Rattle.refusals.proofs.Named.{number_above, number_named, first_named, unless_ok, unless_err, ok_says, err_says}
 use Rattle.layout.specs.Layout.{vertices, tets, coords_of, labels_of}
 use Rattle.layout.specs.between.Framed.{Framed}
 use Rattle.layout.proofs.Framed.{framed}
-use Rattle.arrays.specs.Refusals.{of_header, of_numbers, of_tets, refusal, answered}
+use Rattle.arrays.specs.Refusals.{of_header, of_numbers, of_tets, refusals, refusal, accepted, answered}
 use Rattle.arrays.specs.between.Headed.{headed}
-use Rattle.arrays.specs.declared.Checked.TheVariants.{Accepted, Refused}
+
+-- each refusal of a file has a name
+pub refusal_named : (f : List ℕ) → refusal f < 17
+unfolding refusal
+refusal_named f = first_named (refusals f) refl
 
 module _ (f : List ℕ) where
   -- ---- an answer from the first refusal k
 
-  pub answer-refused : {j k : ℕ} → j ≡ k → 0 < j → Refused j ≡ answered k f
-  unfolding answered
-  answer-refused {j} {k} e h = rw (sym e, ne_eqb j 0 (omega arith))
+  pub answer-refused : {r : Refusal} {k : ℕ} → number_of r ≡ k → Err r ≡ answered k f
+  answer-refused e = unless_err _ e
 
-  pub answer-accepted : {n t k : ℕ} → 0 ≡ k → n ≡ vertices f → t ≡ tets f → Accepted n t ≡ answered k f
-  unfolding answered
-  answer-accepted {n} {t} {k} e p q = rw (eq-eqb k 0 (sym e), p, q)
+  pub answer-accepted : {n t k : ℕ} → 0 ≡ k → n ≡ vertices f → t ≡ tets f → accepted n t ≡ answered k f
+  answer-accepted {n} {t} {k} e p q = unless_ok e (λ i. record { vertices = p i; tets = q i })
 
   -- ---- and back
 
-  pub accepted-says : {n t k : ℕ} → answered k f ≡ Accepted n t → (k ≡ 0) × ((n ≡ vertices f) × (t ≡ tets f))
-  unfolding answered
-  accepted-says {n} {t} {k} e = elim (dec_lt 0 k) [
-    | yes h ↦
-        let d : Refused k ≡ Accepted n t = rw (ne_eqb k 0 (λ z. omega arith)) at e in
-        let z : ◌≡◌ {A = ℕ} 0 1 = cc in
-        absurd (omega arith)
-    | no h ↦
-        let z : k ≡ 0 = omega arith in
-        let d : Accepted (vertices f) (tets f) ≡ Accepted n t = rw (eq-eqb k 0 z) at e in
-        (z, ((cc), (cc)))
-  ]
+  pub accepted-says : {n t k : ℕ} → answered k f ≡ accepted n t → (k ≡ 0) × ((n ≡ vertices f) × (t ≡ tets f))
+  accepted-says e =
+      let s = ok_says e in
+      (s.0, (ap (λ c. c.vertices) (sym s.1), ap (λ c. c.tets) (sym s.1)))
 
-  pub refused_says : {j k : ℕ} → answered k f ≡ Refused j → (k ≡ j) × (0 < j)
-  unfolding answered
-  refused_says {j} {k} e = elim (dec_lt 0 k) [
-    | yes h ↦
-        let d : Refused k ≡ Refused j = rw (ne_eqb k 0 (λ z. omega arith)) at e in
-        let q : k ≡ j = cc in
-        (q, omega arith)
-    | no h ↦
-        let d : Accepted (vertices f) (tets f) ≡ Refused j = rw (eq-eqb k 0 (omega arith)) at e in
-        let z : ◌≡◌ {A = ℕ} 0 1 = cc in
-        absurd (omega arith)
-  ]
+  pub refused_says : {r : Refusal} {k : ℕ} → k < 17 → answered k f ≡ Err r → k ≡ number_of r
+  refused_says {r} {k} l e =
+      let s = err_says _ e in
+      sym (number_named k s.1 l) ∙ ap number_of s.0
 
   -- ---- the header
 
   -- a refusal of the header is the file's
-  pub header_refused : {k : ℕ} → headed f ≡ Refused k → (refusal f ≡ k) × (0 < k)
+  pub header_refused : {r : Refusal} → headed f ≡ Err r → refusal f ≡ number_of r
   unfolding refusal
-  header_refused {k} e =
-      let s = refused_says e in
-      (first-told (of_header f) (of_numbers (coords_of f) (labels_of f) ++ of_tets (coords_of f) (labels_of f)) (omega arith) ∙ s.0, s.1)
+  header_refused {r} e =
+      let s = refused_says (first_named (of_header f) refl) e in
+      first-told (of_header f) (of_numbers (coords_of f) (labels_of f) ++ of_tets (coords_of f) (labels_of f)) (omega (arith, number_above r)) ∙ s
 
-  module _ {n t : ℕ} (e : headed f ≡ Accepted n t) where
+  module _ {n t : ℕ} (e : headed f ≡ accepted n t) where
     header-passed : Passed (of_header f)
     header-passed = passed (of_header f) refl (accepted-says e).0
 

@@ -1,14 +1,15 @@
 -- The refusals of a mesh file, in the order in which they are tested, and what is answered of a file with bytes f.
 -- Assumes nothing.
-use Rattle.std.specs.Prelude.{ℕ, ◌/◌, not, cond, List, [], ◌∷◌, ◌++◌, eqb, ℤ, length}
+use Rattle.std.specs.Prelude.{ℕ, ◌/◌, not, List, [], ◌∷◌, ◌++◌, ℤ, length, Result, Ok}
 use Rattle.base.specs.Lists.{all}
 use Rattle.base.specs.Refusals.{Refusal, refuse, first_of}
+use Rattle.refusals.specs.declared.Refusal.{Refusal as Refused}
+use Rattle.refusals.specs.Named.{unless}
 use Rattle.space.specs.Box.{near}
 use Rattle.layout.specs.Layout.{vertices, tets, length_right, counts_right, layout_right, coords_of, labels_of}
 use Rattle.tets.specs.Tets.{any_outside, any_twice, any_flat}
 use Rattle.facets.specs.Facets.{any_crowded, any_folded}
-use Rattle.arrays.specs.declared.Checked.{Checked}
-use Rattle.arrays.specs.declared.Checked.TheVariants.{Accepted, Refused}
+use Rattle.arrays.specs.declared.Counts.{Counts}
 
 -- ---- the list
 
@@ -49,10 +50,14 @@ refusal f = first_of (refusals f)
 
 -- ---- the answers
 
+-- n vertices and t tetrahedra
+abbrev pub accepted : ℕ → ℕ → Result Counts Refused
+accepted n t = Ok (record { vertices = n; tets = t })
+
 -- the refusal k, or the counts where there is none
-unfoldable pub answered : ℕ → List ℕ → Checked
-answered k f = cond (eqb k 0) (Accepted (vertices f) (tets f)) (Refused k)
+abbrev pub answered : ℕ → List ℕ → Result Counts Refused
+answered k f = unless k (record { vertices = vertices f; tets = tets f })
 
 -- of the file
-abbrev pub checked : List ℕ → Checked
+abbrev pub checked : List ℕ → Result Counts Refused
 checked f = answered (refusal f) f

@@ -5,11 +5,10 @@
 
 ghost use Rattle.std.specs.Prelude.{◌≡◌, ◌⊎◌, ◌&&◌, ◌<◌, eqb, length};
 ghost use Rattle.space.specs.between.Working.{Close};
-ghost use Rattle.facet_hints.specs.between.Hints.{hint_places};
-ghost use Rattle.levels.specs.between.Levels.{levels};
 ghost use Rattle.levels.specs.between.Passing.{Placed, passes_with};
 ghost use Rattle.candidates.specs.between.Met.{Rises, Entered, Raised, Served, Met, MetIn};
 
+use facet_hints::Hints;
 use levels::{Place, also_of, lesser_of, passes_with, third_of, wide};
 use reaching::fewer;
 use space::Vertex;
@@ -18,8 +17,18 @@ use tets_around::Row;
 // A row longer than this is not gone through beside another. That is a matter of speed alone.
 const LONG: usize = 96;
 
-// No vertex: above all of them.
+// No vertex: a number above all of them, as the search asks no more than whether it is below the count.
 const NONE: usize = 65536;
+
+// A place of a tuple, with the coordinates that its test reads.
+#[derive(Clone, Copy)]
+pub struct Spot<'a> {
+    pub coords: &'a [i64],
+    pub place: Place,
+    pub ghost close: { Close coords.now },
+    pub ghost placed: { Placed place },
+    pub ghost within: { place.at < length place.tuple },
+}
 
 // Two rows that have every vertex which can come at a place.
 #[derive(Clone, Copy)]
@@ -31,16 +40,10 @@ pub struct TwoRows {
 // ---- what stands in two rows
 
 // The two are one vertex with which the tuple passes.
-fn agree(tables: &[u8], coords: &[i64], hints: &[u8], place: Place, v: Vertex, w: Vertex) -> bool
-    requires tables_value { tables.now ≡ levels }
-    requires close { Close coords.now × (length hints.now ≡ hint_places) }
-    requires placed { Placed place }
-    ensures { result ≡ (eqb v.0 w.0 && passes_with coords.now hints.now place v.0) }
+fn agree(spot: &Spot, hints: &Hints, v: Vertex, w: Vertex) -> bool
+    ensures { result ≡ (eqb v.0 w.0 && passes_with spot.now.coords.now hints.now spot.now.place v.0) }
 {
-    if v.0 != w.0 {
-        return false;
-    }
-    passes_with(tables, coords, hints, place, v)
+    v.0 == w.0 && passes_with(spot.coords, hints, spot.place, v)
 }
 
 // Where the entries from lo on begin in a row, by halving.
@@ -61,20 +64,11 @@ fn enter(row: &[u16], lo: usize) -> usize
     low
 }
 
-// The first vertex from lo on that stands in both rows and with which the tuple passes, or none.
-fn meet(
-    tables: &[u8],
-    coords: &[i64],
-    hints: &[u8],
-    one: &[u16],
-    two: &[u16],
-    place: Place,
-    lo: usize,
-) -> usize
-    requires tables_value { tables.now ≡ levels }
-    requires close { Close coords.now × (length hints.now ≡ hint_places) }
-    requires placed { Placed place × (Rises one.now × Rises two.now) }
-    ensures { Met (passes_with coords.now hints.now place) one.now two.now lo result }
+// The first vertex from lo on that stands in both rows and with which the tuple passes, or none. Of two places i and j
+// each round moves one, so they are counted by hand.
+fn meet(spot: &Spot, hints: &Hints, one: &[u16], two: &[u16], lo: usize) -> usize
+    requires { Rises one.now × Rises two.now }
+    ensures { Met (passes_with spot.now.coords.now hints.now spot.now.place) one.now two.now lo result }
 {
     let mut i = enter(one, lo);
     let mut j = enter(two, lo);
@@ -86,7 +80,7 @@ fn meet(
         let w = two[j];
         if w < v {
             j += 1;
-        } else if agree(tables, coords, hints, place, Vertex(v), Vertex(w)) {
+        } else if agree(spot, hints, Vertex(v), Vertex(w)) {
             return wide(v);
         } else {
             i += 1;
@@ -96,19 +90,9 @@ fn meet(
 }
 
 // The same for two rows of the table.
-pub fn meet_rows(
-    tables: &[u8],
-    coords: &[i64],
-    hints: &[u8],
-    table: &[u16],
-    rows: TwoRows,
-    place: Place,
-    lo: usize,
-) -> usize
-    requires tables_value { tables.now ≡ levels }
-    requires close { (Close coords.now × (length hints.now ≡ hint_places)) × Placed place }
-    requires served { Served table.now rows.one × Served table.now rows.two }
-    ensures { MetIn (passes_with coords.now hints.now place) table.now rows lo result }
+pub fn meet_rows(spot: &Spot, hints: &Hints, table: &[u16], rows: TwoRows, lo: usize) -> usize
+    requires { Served table.now rows.one × Served table.now rows.two }
+    ensures { MetIn (passes_with spot.now.coords.now hints.now spot.now.place) table.now rows lo result }
 {
     let one = rows.one;
     let two = rows.two;
@@ -116,30 +100,22 @@ pub fn meet_rows(
     let end = from + one.size;
     let low = two.from;
     let high = low + two.size;
-    meet(
-        tables,
-        coords,
-        hints,
-        &table[from..end],
-        &table[low..high],
-        place,
-        lo,
-    )
+    meet(spot, hints, &table[from..end], &table[low..high], lo)
 }
 
 // ---- which rows, and from where on
 
 // The row of the first joined corner, or, where three corners are joined to the place,
 // the one of the first two with fewer neighbours.
-pub fn nearer(tables: &[u8], x: usize, r: Row, q: Row) -> Row
-    requires tables_value { tables.now ≡ levels }
-    requires x_bound { x < 19 }
+pub fn nearer(x: usize, r: Row, q: Row) -> Row
+    requires { x < 19 }
     ensures { (result ≡ r) ⊎ (result ≡ q) }
 {
-    if also_of(tables, x) == third_of(tables, x) {
-        return r;
+    if also_of(x) == third_of(x) {
+        r
+    } else {
+        fewer(r, q)
     }
-    fewer(r, q)
 }
 
 // The other one of two rows, unless it is so long that going through it costs more than it tells.
@@ -156,15 +132,13 @@ pub fn partner(r: Row, q: Row) -> Row
 }
 
 // lo, or the first vertex above those that the place must be above.
-pub fn rise(tables: &[u8], place: Place, lo: usize) -> usize
-    requires tables_value { tables.now ≡ levels }
-    requires placed { Placed place }
+pub fn rise(place: Place, lo: usize) -> usize
+    requires { Placed place }
     ensures { Raised place.tuple place.row lo result }
 {
-    let k = lesser_of(tables, place.row);
+    let k = lesser_of(place.row);
     if k == 0 {
         return lo;
     }
-    let y = wide(place.tuple[k - 1]) + 1;
-    if lo < y { y } else { lo }
+    lo.max(wide(place.tuple[k - 1]) + 1)
 }

@@ -1,2 +1,3 @@
 pub mod InArrays
 pub mod Conditions
+pub mod Row

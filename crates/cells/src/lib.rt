@@ -8,51 +8,26 @@ ghost use Rattle.base.specs.Lists.{all};
 ghost use Rattle.space.specs.Box.{is_above0};
 ghost use Rattle.space.specs.Arrays.{row4};
 ghost use Rattle.space.specs.between.Working.{Close};
-ghost use Rattle.tets_around.specs.between.Index.{Indexed};
 ghost use Rattle.tets_around.specs.Sharing.{together_in};
 ghost use Rattle.templates.specs.Tables.{at};
-ghost use Rattle.templates.specs.between.Flat.{pair_at, pairs};
+ghost use Rattle.templates.specs.between.Flat.{row_at, pair_at, pairs};
 ghost use Rattle.cells.specs.Cells.{are_corners, all_joined, splits, all_faces, box_of};
 ghost use Rattle.cells.specs.between.Rows.{row3, threes, fours, points_of, sound_by, facet_in};
 
 use space::{Vertex, point_at, volume};
+use std::array;
 use templates::{all_distinct, corner};
-use tets_around::{together2, together3};
+use tets_around::Index;
 
 // ---- the vertices of a tuple
 
-// The vertices at row i of a table.
-pub fn corners2(c: &[u16], rows: &[u8], i: usize) -> [u16; 2]
-    requires { i < length rows.now / 2 }
-    ensures { result ≡ at c.now (pair_at rows.now i) }
+// The vertices at row i of a table of N corners a row.
+pub fn corners_at<const N: usize>(c: &[u16], rows: &[u8], i: usize) -> [u16; N]
+    requires { i < length rows.now / N }
+    ensures { result ≡ at c.now (row_at N rows.now i) }
 {
-    let at = 2 * i;
-    [corner(c, rows[at]), corner(c, rows[at + 1])]
-}
-
-pub fn corners3(c: &[u16], rows: &[u8], i: usize) -> [u16; 3]
-    requires { i < length rows.now / 3 }
-    ensures { result ≡ at c.now (row3 rows.now i) }
-{
-    let at = 3 * i;
-    [
-        corner(c, rows[at]),
-        corner(c, rows[at + 1]),
-        corner(c, rows[at + 2]),
-    ]
-}
-
-pub fn corners4(c: &[u16], rows: &[u8], i: usize) -> [u16; 4]
-    requires { i < length rows.now / 4 }
-    ensures { result ≡ at c.now (row4 rows.now i) }
-{
-    let at = 4 * i;
-    [
-        corner(c, rows[at]),
-        corner(c, rows[at + 1]),
-        corner(c, rows[at + 2]),
-        corner(c, rows[at + 3]),
-    ]
+    let row = &rows[N * i..N * i + N];
+    array::from_fn(|j| corner(c, row[j]))
 }
 
 // ---- condition 1
@@ -60,120 +35,49 @@ pub fn corners4(c: &[u16], rows: &[u8], i: usize) -> [u16; 4]
 fn all_below(c: &[u16], n: usize) -> bool
     ensures { result ≡ all (λ v. ltb v n) c.now }
 {
-    let mut i = 0;
-    while i < c.len() {
-        if n <= c[i] as usize {
-            return false;
-        }
-        i += 1;
-    }
-    true
+    c.iter().all(|v| usize::from(*v) < n)
 }
 
 // 1: as many corners as asked, distinct vertices of the mesh.
 pub fn is_tuple(coords: &[i64], c: &[u16], corners: usize) -> bool
     ensures { result ≡ are_corners (length coords.now / 3) corners c.now }
 {
-    if c.len() != corners {
-        return false;
-    }
-    if !all_below(c, coords.len() / 3) {
-        return false;
-    }
-    all_distinct(c)
+    c.len() == corners && all_below(c, coords.len() / 3) && all_distinct(c)
 }
 
 // ---- condition 2
 
 // Row i of the table is an edge of the mesh.
-pub fn edge(
-    labels: &[u16],
-    n: usize,
-    offsets: &[u16],
-    entries: &[u16],
-    c: &[u16],
-    rows: &[u8],
-    i: usize,
-) -> bool
-    requires indexed { Indexed labels.now n offsets.now entries.now }
-    requires i_in_bounds { i < length rows.now / 2 }
-    ensures { result ≡ together_in labels.now (at c.now (pair_at rows.now i)) }
+pub fn edge(ix: &Index<'_>, c: &[u16], rows: &[u8], i: usize) -> bool
+    requires { i < length rows.now / 2 }
+    ensures { result ≡ together_in ix.now.labels.now (at c.now (pair_at rows.now i)) }
 {
-    let e = corners2(c, rows, i);
-    together2(labels, n, offsets, entries, Vertex(e[0]), Vertex(e[1]))
+    let e = corners_at::<2>(c, rows, i);
+    ix.together2(Vertex(e[0]), Vertex(e[1]))
 }
 
 // 2: every edge is a mesh edge.
-pub fn has_edges(
-    labels: &[u16],
-    n: usize,
-    offsets: &[u16],
-    entries: &[u16],
-    c: &[u16],
-    edges: &[u8],
-) -> bool
-    requires { Indexed labels.now n offsets.now entries.now }
-    ensures { result ≡ all_joined (together_in labels.now) c.now (pairs edges.now) }
+pub fn has_edges(ix: &Index<'_>, c: &[u16], edges: &[u8]) -> bool
+    ensures { result ≡ all_joined (together_in ix.now.labels.now) c.now (pairs edges.now) }
 {
-    let k = edges.len() / 2;
-    let mut i = 0;
-    while i < k {
-        if !edge(labels, n, offsets, entries, c, edges, i) {
-            return false;
-        }
-        i += 1;
-    }
-    true
+    (0..edges.len() / 2).all(|i| edge(ix, c, edges, i))
 }
 
 // ---- condition 3
 
 // Row i of the table is a facet.
-pub fn facet(
-    labels: &[u16],
-    n: usize,
-    offsets: &[u16],
-    entries: &[u16],
-    c: &[u16],
-    rows: &[u8],
-    i: usize,
-) -> bool
-    requires indexed { Indexed labels.now n offsets.now entries.now }
-    requires i_in_bounds { i < length rows.now / 3 }
-    ensures { result ≡ facet_in labels.now c.now (row3 rows.now i) }
+pub fn facet(ix: &Index<'_>, c: &[u16], rows: &[u8], i: usize) -> bool
+    requires { i < length rows.now / 3 }
+    ensures { result ≡ facet_in ix.now.labels.now c.now (row3 rows.now i) }
 {
-    let f = corners3(c, rows, i);
-    together3(
-        labels,
-        n,
-        offsets,
-        entries,
-        Vertex(f[0]),
-        Vertex(f[1]),
-        Vertex(f[2]),
-    )
+    let f = corners_at::<3>(c, rows, i);
+    ix.together3(Vertex(f[0]), Vertex(f[1]), Vertex(f[2]))
 }
 
-fn all_facets(
-    labels: &[u16],
-    n: usize,
-    offsets: &[u16],
-    entries: &[u16],
-    c: &[u16],
-    rows: &[u8],
-) -> bool
-    requires { Indexed labels.now n offsets.now entries.now }
-    ensures { result ≡ all (facet_in labels.now c.now) (threes rows.now) }
+fn all_facets(ix: &Index<'_>, c: &[u16], rows: &[u8]) -> bool
+    ensures { result ≡ all (facet_in ix.now.labels.now c.now) (threes rows.now) }
 {
-    let k = rows.len() / 3;
-    let mut i = 0;
-    while i < k {
-        if !facet(labels, n, offsets, entries, c, rows, i) {
-            return false;
-        }
-        i += 1;
-    }
-    true
+    (0..rows.len() / 3).all(|i| facet(ix, c, rows, i))
 }
 
 // The triangles of a quadrilateral's one diagonal, and of its other, by the places of its four vertices.
@@ -182,65 +86,26 @@ const FIRST: [u8; 6] = [0, 1, 2, 0, 2, 3];
 const SECOND: [u8; 6] = [0, 1, 3, 1, 2, 3];
 
 // Both triangles of a diagonal of quadrilateral i are facets.
-pub fn split(
-    labels: &[u16],
-    n: usize,
-    offsets: &[u16],
-    entries: &[u16],
-    c: &[u16],
-    rows: &[u8],
-    i: usize,
-) -> bool
-    requires indexed { Indexed labels.now n offsets.now entries.now }
-    requires i_in_bounds { i < length rows.now / 4 }
-    ensures { result ≡ splits (facet_in labels.now c.now) (row4 rows.now i) }
+pub fn split(ix: &Index<'_>, c: &[u16], rows: &[u8], i: usize) -> bool
+    requires { i < length rows.now / 4 }
+    ensures { result ≡ splits (facet_in ix.now.labels.now c.now) (row4 rows.now i) }
 {
-    let q = corners4(c, rows, i);
-    if all_facets(labels, n, offsets, entries, &q, &FIRST) {
-        return true;
-    }
-    all_facets(labels, n, offsets, entries, &q, &SECOND)
+    let q = corners_at::<4>(c, rows, i);
+    all_facets(ix, &q, &FIRST) || all_facets(ix, &q, &SECOND)
 }
 
-fn all_split(
-    labels: &[u16],
-    n: usize,
-    offsets: &[u16],
-    entries: &[u16],
-    c: &[u16],
-    rows: &[u8],
-) -> bool
-    requires { Indexed labels.now n offsets.now entries.now }
-    ensures { result ≡ all (splits (facet_in labels.now c.now)) (fours rows.now) }
+// One line beside `all_facets`: one function for both would take the width and the test, and be longer.
+fn all_split(ix: &Index<'_>, c: &[u16], rows: &[u8]) -> bool
+    ensures { result ≡ all (splits (facet_in ix.now.labels.now c.now)) (fours rows.now) }
 {
-    let k = rows.len() / 4;
-    let mut i = 0;
-    while i < k {
-        if !split(labels, n, offsets, entries, c, rows, i) {
-            return false;
-        }
-        i += 1;
-    }
-    true
+    (0..rows.len() / 4).all(|i| split(ix, c, rows, i))
 }
 
 // 3: every triangle is a facet, and both triangles of a diagonal of every quadrilateral.
-pub fn has_faces(
-    labels: &[u16],
-    n: usize,
-    offsets: &[u16],
-    entries: &[u16],
-    c: &[u16],
-    triangles: &[u8],
-    quads: &[u8],
-) -> bool
-    requires { Indexed labels.now n offsets.now entries.now }
-    ensures { result ≡ all_faces (facet_in labels.now c.now) (threes triangles.now) (fours quads.now) }
+pub fn has_faces(ix: &Index<'_>, c: &[u16], triangles: &[u8], quads: &[u8]) -> bool
+    ensures { result ≡ all_faces (facet_in ix.now.labels.now c.now) (threes triangles.now) (fours quads.now) }
 {
-    if !all_facets(labels, n, offsets, entries, c, triangles) {
-        return false;
-    }
-    all_split(labels, n, offsets, entries, c, quads)
+    all_facets(ix, c, triangles) && all_split(ix, c, quads)
 }
 
 // ---- condition 4
@@ -250,7 +115,7 @@ pub fn sound_at(coords: &[i64], c: &[u16], rows: &[u8], i: usize) -> bool
     requires { (i < length rows.now / 4) × Close coords.now }
     ensures { result ≡ is_above0 (box_of (points_of coords.now) (at c.now (row4 rows.now i))) }
 {
-    let k = corners4(c, rows, i);
+    let k = corners_at::<4>(c, rows, i);
     let p = point_at(coords, Vertex(k[0]));
     let q = point_at(coords, Vertex(k[1]));
     let r = point_at(coords, Vertex(k[2]));
@@ -263,13 +128,5 @@ pub fn is_sound(coords: &[i64], c: &[u16], triples: &[u8]) -> bool
     requires { Close coords.now }
     ensures { result ≡ sound_by coords.now c.now (fours triples.now) }
 {
-    let k = triples.len() / 4;
-    let mut i = 0;
-    while i < k {
-        if !sound_at(coords, c, triples, i) {
-            return false;
-        }
-        i += 1;
-    }
-    true
+    (0..triples.len() / 4).all(|i| sound_at(coords, c, triples, i))
 }

@@ -12,107 +12,120 @@
 // line follows a cell that was lost.
 #![tactic(auto)]
 
-ghost use Rattle.std.specs.Prelude.{◌*◌, ◌/◌, ◌≤◌, ◌≡◌, IsTrue, length};
+ghost use Rattle.std.specs.Prelude.{◌/◌, ◌≤◌, OnOk, length};
 ghost use Rattle.record.specs.Entries.{record_size};
 ghost use Rattle.std.specs.Io.KnownBytes.{Appends};
 ghost use Rattle.combine.specs.Listed.{cell_lines};
 
-use arrays::Checked;
+use arrays::Counts;
 use input::read_full;
-use output::{flushed, show, show_number, show_numbers};
+use output::{Lost, TEXT, flushed, show, show_number, show_numbers};
 use record::{Mark, SIZE, mark_of, numbers_of};
-use records::Answer;
+use records::{Given, Refused};
+use refusals::Refusal;
 use std::env::{Env, FillError};
 use std::io::{Read, Write};
+use std::str;
 
 // How many cells go into one call at most, and the entries of their records.
 const BATCH: usize = 4096;
 
 const ROOM: usize = BATCH * SIZE;
 
+// Room for the longest file and one byte more.
+const FILE: usize = 26649;
+
+// ---- what is asked for
+
+// A job, with what its words say: a tuple for `why`; a mark, and how many cells there is room for.
+#[derive(Clone, Copy, Debug, PartialEq, Eq)]
+enum Job {
+    Pack,
+    Unpack,
+    Why([u16; 9]),
+    List(Listing),
+}
+
+// Where a listing stands: the mark to go on from, how many cells are done, and for how many there is room.
+#[derive(Clone, Copy, Debug, PartialEq, Eq)]
+struct Listing {
+    mark: Mark,
+    done: u64,
+    room: u64,
+}
+
 // ---- writing
 
 // Writes the first line: how many vertices and tetrahedra.
-fn show_mesh(to: &mut impl Write, out: &mut [u8], file: &[u8]) -> bool
-    requires { length out.old ≡ 65536 }
-{
+fn show_mesh(to: &mut impl Write, out: &mut [u8; TEXT], file: &[u8]) -> Result<(), Lost> {
     match arrays::header(file) {
-        Checked::Accepted { vertices, tets } => {
+        Ok(Counts { vertices, tets }) => {
             let counts = [(vertices % 65536) as u16, (tets % 65536) as u16];
             show_numbers(to, out, b"mesh", &counts)
         }
-        Checked::Refused(_) => false,
+        Err(_) => Err(Lost),
     }
 }
 
-fn show_mark(to: &mut impl Write, out: &mut [u8], m: Mark) -> bool
-    requires { length out.old ≡ 65536 }
-{
+fn show_mark(to: &mut impl Write, out: &mut [u8; TEXT], m: Mark) -> Result<(), Lost> {
     let numbers = numbers_of(m);
     show_numbers(to, out, b"mark", &numbers)
 }
 
-// Writes the lines of the first `count` records.
-fn show_cells<W: Write>(to: &mut W, out: &mut [u8], records: &[u16], count: usize) -> bool
-    requires { (length out.old ≡ 65536) × (count ≤ length records.now / record_size) }
-    ensures { IsTrue result → Appends (W.contents to.old) (W.contents to.new) (cell_lines records.now count) }
+// Writes the lines of the first `count` records. By their places: the edit `cells_twice` turns one.
+fn show_cells<W: Write>(
+    to: &mut W,
+    out: &mut [u8; TEXT],
+    records: &[u16],
+    count: usize,
+) -> Result<(), Lost>
+    requires { count ≤ length records.now / record_size }
+    ensures { OnOk result (Appends (W.contents to.old) (W.contents to.new) (cell_lines records.now count)) }
 {
     let mut at = 0;
-    let mut i = 0;
-    while i < count {
-        let next = flushed(to, out, at);
-        if next > 64000 {
-            return false;
-        }
+    for i in 0..count {
+        let next = flushed(to, out, at)?;
         let from = SIZE * i;
         let end = from + SIZE;
         at = lines::put_cell(out, next, &records[from..end]);
-        i += 1;
     }
     show(to, out, at)
 }
 
 // ---- the listing
 
-// What is left to do after a call of the library: another call from a mark on, with this many cells done, or nothing.
-#[derive(Clone, Copy)]
-enum Step {
-    More(Mark, u64),
-    Done,
-}
-
-// Writes what a call gave: the first line before the first cell, the cells, and at the end the last line.
+// Writes what a call gave: the first line before the first cell, the cells, and at the end the last line. Where the
+// listing stands then, if another call is left to do. A last line that is lost ends the listing as one that is not.
 fn show_answer(
     to: &mut impl Write,
-    out: &mut [u8],
+    out: &mut [u8; TEXT],
     file: &[u8],
     records: &[u16],
-    before: u64,
-    room: u64,
-    answer: Answer,
-) -> Step
-    requires { length out.old ≡ 65536 }
-{
+    at: Listing,
+    answer: Result<Given, Refused>,
+) -> Option<Listing> {
     match answer {
-        Answer::Refused { number, written } => {
-            if number != 12 {
-                show_number(to, out, b"refused", number as u64);
-                return Step::Done;
+        Err(Refused { refusal, written }) => {
+            if refusal == Refusal::CellTooLong {
+                given(to, out, file, records, at.done, written).ok()?;
             }
-            if given(to, out, file, records, before, written) {
-                show_number(to, out, b"refused", 12);
-            }
-            Step::Done
+            let _ = show_number(to, out, b"refused", u64::from(u8::from(refusal)));
+            None
         }
-        Answer::Given {
-            count,
-            none_remain,
-            mark,
-        } => {
-            if !given(to, out, file, records, before, count) {
-                return Step::Done;
-            }
-            closed(to, out, after(before, count), room, none_remain, mark)
+        Ok(
+            Given {
+                count,
+                none_remain,
+                mark,
+            },
+        ) => {
+            given(to, out, file, records, at.done, count).ok()?;
+            let next = Listing {
+                mark,
+                done: after(at.done, count),
+                room: at.room,
+            };
+            closed(to, out, next, none_remain)
         }
     }
 }
@@ -120,224 +133,127 @@ fn show_answer(
 // The first line, where this is the first call, and the cells.
 fn given(
     to: &mut impl Write,
-    out: &mut [u8],
+    out: &mut [u8; TEXT],
     file: &[u8],
     records: &[u16],
     before: u64,
     count: usize,
-) -> bool
-    requires { length out.old ≡ 65536 }
-{
+) -> Result<(), Lost> {
     if before == 0 {
-        if !show_mesh(to, out, file) {
-            return false;
-        }
-        return show_given(to, out, records, count);
+        show_mesh(to, out, file)?;
     }
     show_given(to, out, records, count)
 }
 
 // The cells, where the room holds as many as the call says.
-fn show_given<W: Write>(to: &mut W, out: &mut [u8], records: &[u16], count: usize) -> bool
-    requires { length out.old ≡ 65536 }
-    ensures { IsTrue result → Appends (W.contents to.old) (W.contents to.new) (cell_lines records.now count) }
+fn show_given<W: Write>(
+    to: &mut W,
+    out: &mut [u8; TEXT],
+    records: &[u16],
+    count: usize,
+) -> Result<(), Lost>
+    ensures { OnOk result (Appends (W.contents to.old) (W.contents to.new) (cell_lines records.now count)) }
 {
     if count <= records.len() / SIZE {
         return show_cells(to, out, records, count);
     }
-    false
+    Err(Lost)
 }
 
 // How many cells there are with `count` more; it stays where a number has no more room.
 fn after(before: u64, count: usize) -> u64 {
-    let more = count as u64;
-    if more <= u64::MAX - before {
-        return before + more;
-    }
-    before
+    before.checked_add(count as u64).unwrap_or(before)
 }
 
 fn closed(
     to: &mut impl Write,
-    out: &mut [u8],
-    done: u64,
-    room: u64,
+    out: &mut [u8; TEXT],
+    at: Listing,
     none_remain: bool,
-    mark: Mark,
-) -> Step
-    requires { length out.old ≡ 65536 }
-{
+) -> Option<Listing> {
     if none_remain {
-        show_number(to, out, b"end", done);
-        return Step::Done;
+        let _ = show_number(to, out, b"end", at.done);
+        return None;
     }
-    if room <= done {
-        show_mark(to, out, mark);
-        return Step::Done;
+    if at.room <= at.done {
+        let _ = show_mark(to, out, at.mark);
+        return None;
     }
-    Step::More(mark, done)
+    Some(at)
 }
 
 // How many of the cells that are left go into one call.
-fn batch(room: u64, done: u64) -> usize
+fn batch(at: Listing) -> usize
     ensures { result ≤ 4096 }
 {
-    if room <= done {
-        return 0;
-    }
-    let left = room - done;
-    if left < 4096 { left as usize } else { BATCH }
+    at.room.saturating_sub(at.done).min(4096) as usize
 }
 
 // One call of the library, and what it gave written.
 fn call(
     to: &mut impl Write,
-    out: &mut [u8],
+    out: &mut [u8; TEXT],
     file: &[u8],
     table: &mut [u16],
-    records: &mut [u16],
-    mark: Mark,
-    done: u64,
-    room: u64,
-) -> Step
-    requires { (length out.old ≡ 65536) × (length records.old ≡ 4096 * record_size) }
-{
-    let end = SIZE * batch(room, done);
+    records: &mut [u16; ROOM],
+    at: Listing,
+) -> Option<Listing> {
+    let end = SIZE * batch(at);
     let part = &mut records[..end];
-    let answer = listing::portion(file, mark, table, part);
-    show_answer(to, out, file, part, done, room, answer)
+    let answer = listing::portion(file, at.mark, table, part);
+    show_answer(to, out, file, part, at, answer)
 }
 
-// Calls until the end or the room is reached. A loop has to end, so it counts down from a number that no run uses up.
+// Calls until the end or the room is reached. A loop has to end, so its turns are a number that no run uses up.
 fn list(
     to: &mut impl Write,
-    out: &mut [u8],
+    out: &mut [u8; TEXT],
     file: &[u8],
     table: &mut [u16],
-    records: &mut [u16],
-    from: Mark,
-    room: u64,
-)
-    requires { (length out.old ≡ 65536) × (length records.old ≡ 4096 * record_size) }
-{
-    let mut mark = from;
-    let mut done = 0;
-    let mut turns = u64::MAX;
-    while turns > 0 {
-        let step = call(to, out, file, table, records, mark, done, room);
-        let Step::More(next, count) = step else {
+    records: &mut [u16; ROOM],
+    from: Listing,
+) {
+    let mut at = from;
+    for _ in 0..u64::MAX {
+        let Some(next) = call(to, out, file, table, records, at) else {
             return;
         };
-        mark = next;
-        done = count;
-        turns -= 1;
+        at = next;
     }
 }
 
-// ---- all of it, in rooms with their length alone told
-
-fn table_room() -> [u16; 25089]
-    ensures { 25089 ≡ length result }
-{
-    [0; 25089]
-}
-
-fn record_room() -> [u16; ROOM]
-    ensures { 4096 * record_size ≡ length result }
-{
-    [0; ROOM]
-}
-
 // Lists the cells after a mark, at most so many.
-fn list_from(to: &mut impl Write, text: &mut [u8], file: &[u8], from: Mark, room: u64)
-    requires { length text.old ≡ 65536 }
-{
-    let mut table = table_room();
-    let mut records = record_room();
-    list(to, text, file, &mut table, &mut records, from, room);
+fn list_from(to: &mut impl Write, text: &mut [u8; TEXT], file: &[u8], from: Listing) {
+    let mut table = [0; 25089];
+    let mut records = [0; ROOM];
+    list(to, text, file, &mut table, &mut records, from);
 }
 
 // ---- arguments
 
-// What a word says: a number, or nothing that is one.
-#[derive(Clone, Copy)]
-enum Word {
-    Number(u64),
-    Bad,
+// The number that a text of digits says. A text with a sign says none here.
+fn number_in(text: &[u8]) -> Option<u64> {
+    if !text.iter().all(|b| b.is_ascii_digit()) {
+        return None;
+    }
+    str::from_utf8(text).ok()?.parse().ok()
 }
 
-// The number that a text of digits says, where it is at most `most`.
-fn number_in(text: &[u8], most: u64) -> Word
-    requires { most ≤ 4294967295 }
-{
-    if text.len() == 0 {
-        return Word::Bad;
-    }
-    let mut x: u64 = 0;
-    let mut i = 0;
-    while i < text.len() {
-        let d = digit(text[i]);
-        if d > 9 {
-            return Word::Bad;
-        }
-        x = 10 * x + d;
-        if x > most {
-            return Word::Bad;
-        }
-        i += 1;
-    }
-    Word::Number(x)
-}
-
-// The value of a digit, and more than 9 where it is none.
-fn digit(b: u8) -> u64
-    ensures { result ≤ 255 }
-{
-    if b < 48 {
-        return 255;
-    }
-    (b - 48) as u64
-}
-
-// The number that argument `i` says, or nothing where it says none up to `most`.
-fn number_at(env: &impl Env, i: usize, most: u64) -> Word
-    requires { most ≤ 4294967295 }
-{
-    let mut buf = word_room();
-    match env.arg(i, &mut buf) {
-        Ok(n) => number_in(&buf[..n], most),
-        Err(_) => Word::Bad,
-    }
-}
-
-// Room for the longest word, its length alone told.
-fn word_room() -> [u8; 4096]
-    ensures { 4096 ≡ length result }
-{
-    [0; 4096]
+// The number that argument `i` says.
+fn number_at(env: &impl Env, i: usize) -> Option<u64> {
+    let mut buf = [0; 4096];
+    let n = env.arg(i, &mut buf).ok()?;
+    number_in(&buf[..n])
 }
 
 // How many arguments there are, the program's name among them; 12 stands for any more.
 fn count_words(env: &impl Env) -> usize {
-    let mut i = 0;
-    while i < 12 {
-        match env.arg(i, &mut []) {
-            Err(FillError::NotPresent) => return i,
-            _ => i += 1,
+    for i in 0..12 {
+        if let Err(FillError::NotPresent) = env.arg(i, &mut []) {
+            return i;
         }
     }
     12
-}
-
-// A kind or a corner: argument `i`, or 65,536 where it is no number of 16 bits.
-fn corner(env: &impl Env, i: usize) -> u64
-    ensures { result ≤ 65536 }
-{
-    let w = number_at(env, i, 65535);
-    let Word::Number(x) = w else {
-        return 65536;
-    };
-    if x < 65536 { x } else { 65536 }
 }
 
 fn complain(err: &mut impl Write) {
@@ -346,158 +262,86 @@ fn complain(err: &mut impl Write) {
     );
 }
 
-// Fills a kind and eight numbers from the arguments, from `first` on, and answers whether each is one of 16 bits.
-fn read_numbers(env: &impl Env, numbers: &mut [u16], first: usize) -> bool
-    requires { (length numbers.old ≡ 9) × (first ≤ 2) }
+// A kind and eight numbers, from argument `first` on, where each is one of 16 bits.
+fn numbers_at(env: &impl Env, first: usize) -> Option<[u16; 9]>
+    requires { first ≤ 2 }
 {
-    let mut i = 0;
-    while i < numbers.len() {
-        let x = corner(env, first + i);
-        if x > 65535 {
-            return false;
-        }
-        numbers[i] = x as u16;
-        i += 1;
+    let mut numbers = [0; 9];
+    for (i, x) in numbers.iter_mut().enumerate() {
+        *x = u16::try_from(number_at(env, first + i)?).ok()?;
     }
-    true
+    Some(numbers)
 }
 
-// The portion that the arguments ask for.
-fn list_asked(
-    env: &impl Env,
-    to: &mut impl Write,
-    err: &mut impl Write,
-    text: &mut [u8],
-    file: &[u8],
-)
-    requires { length text.old ≡ 65536 }
-{
-    let w = number_at(env, 10, 4294967295);
-    let Word::Number(room) = w else {
-        complain(err);
-        return;
-    };
-    let mut numbers = [0u16; 9];
-    if read_numbers(env, &mut numbers, 1) {
-        list_from(to, text, file, mark_of(numbers), room);
-    } else {
-        complain(err);
-    }
-}
-
-// What is found of the tuple that the arguments name.
-fn why_asked(
-    env: &impl Env,
-    to: &mut impl Write,
-    err: &mut impl Write,
-    text: &mut [u8],
-    file: &[u8],
-)
-    requires { length text.old ≡ 65536 }
-{
-    let mut n = [0u16; 9];
-    if read_numbers(env, &mut n, 2) {
-        let tuple = [n[1], n[2], n[3], n[4], n[5], n[6], n[7], n[8]];
-        why_job::tell(to, err, text, file, n[0], tuple);
-    } else {
-        complain(err);
-    }
-}
-
-fn run(env: &impl Env, to: &mut impl Write, err: &mut impl Write, text: &mut [u8], file: &[u8])
-    requires { length text.old ≡ 65536 }
-{
-    let words = count_words(env);
-    if words == 1 {
-        list_from(
-            to,
-            text,
-            file,
-            mark_of([65535, 0, 0, 0, 0, 0, 0, 0, 0]),
-            u64::MAX,
-        );
-        return;
-    }
-    if words == 11 {
-        list_asked(env, to, err, text, file);
-        return;
-    }
-    complain(err);
-}
-
-// Whether a text is this word.
-fn is_word(text: &[u8], word: &[u8]) -> bool {
-    if text.len() != word.len() {
-        return false;
-    }
-    let mut i = 0;
-    while i < text.len() {
-        if text[i] != word[i] {
-            return false;
-        }
-        i += 1;
-    }
-    true
-}
-
-// Whether the first argument is this word, and so many follow it.
-fn is_asked(env: &impl Env, word: &[u8], more: usize) -> bool
-    requires { more ≤ 9 }
-{
-    if count_words(env) != 2 + more {
-        return false;
-    }
-    let mut buf = word_room();
+// Whether the first argument is this word.
+fn is_word(env: &impl Env, word: &[u8]) -> bool {
+    let mut buf = [0; 4096];
     match env.arg(1, &mut buf) {
-        Ok(n) => is_word(&buf[..n], word),
+        Ok(n) => &buf[..n] == word,
         Err(_) => false,
     }
 }
 
-// Room for the longest file and one byte more, its length alone told.
-fn file_room() -> [u8; 26649]
-    ensures { 26649 ≡ length result }
-{
-    [0; 26649]
+// The listing from a mark on, of ten words.
+fn listing_asked(env: &impl Env) -> Option<Job> {
+    let room = u32::try_from(number_at(env, 10)?).ok()?;
+    let numbers = numbers_at(env, 1)?;
+    Some(Job::List(Listing {
+        mark: mark_of(numbers),
+        done: 0,
+        room: u64::from(room),
+    }))
 }
 
-// Room for the text that lines are written to, its length alone told.
-fn text_room() -> [u8; 65536]
-    ensures { 65536 ≡ length result }
-{
-    [0; 65536]
+// The job that the arguments ask for, if they do.
+fn asked(env: &impl Env) -> Option<Job> {
+    match count_words(env) {
+        1 => Some(Job::List(Listing {
+            mark: mark_of([65535, 0, 0, 0, 0, 0, 0, 0, 0]),
+            done: 0,
+            room: u64::MAX,
+        })),
+        2 if is_word(env, b"pack") => Some(Job::Pack),
+        2 if is_word(env, b"unpack") => Some(Job::Unpack),
+        11 if is_word(env, b"why") => Some(Job::Why(numbers_at(env, 2)?)),
+        11 => listing_asked(env),
+        _ => None,
+    }
 }
 
-// Does what the arguments ask for, with a text to write lines to and room for a file.
+// Does what the arguments ask for, with a text to write lines to and room for a file. What is packed is read in pieces;
+// for all else the file is read first, for a complaint too.
 fn work(
     env: &impl Env,
     from: &mut impl Read,
     to: &mut impl Write,
     err: &mut impl Write,
-    text: &mut [u8],
-    bytes: &mut [u8],
-)
-    requires { length text.old ≡ 65536 }
-{
-    if is_asked(env, b"pack", 0) {
+    text: &mut [u8; TEXT],
+    bytes: &mut [u8; FILE],
+) {
+    let job = asked(env);
+    if job == Some(Job::Pack) {
         pack_job::pack(from, to, err, text, bytes);
         return;
     }
     let n = read_full(from, bytes);
-    if is_asked(env, b"unpack", 0) {
-        unpack_job::unpack(to, err, text, &bytes[..n]);
-        return;
+    let file = &bytes[..n];
+    match job {
+        Some(Job::Unpack) => {
+            unpack_job::unpack(to, err, text, file);
+        }
+        Some(Job::Why(n)) => {
+            let tuple = [n[1], n[2], n[3], n[4], n[5], n[6], n[7], n[8]];
+            why_job::tell(to, err, text, file, n[0], tuple);
+        }
+        Some(Job::List(from)) => list_from(to, text, file, from),
+        _ => complain(err),
     }
-    if is_asked(env, b"why", 9) {
-        why_asked(env, to, err, text, &bytes[..n]);
-        return;
-    }
-    run(env, to, err, text, &bytes[..n]);
 }
 
 fn main(rt: HostRuntime) {
-    let mut text = text_room();
-    let mut bytes = file_room();
+    let mut text = [0; TEXT];
+    let mut bytes = [0; FILE];
     let mut from = rt.stdin();
     let mut to = rt.stdout();
     let mut err = rt.stderr();

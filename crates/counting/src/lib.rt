@@ -35,12 +35,8 @@ fn put_bits(labels: &[u16], list: &[u16], c: &[u16], has: &mut [u8])
     requires { Within (length labels.now / 4) list.now × (length has.old ≡ 8 * length list.now) }
     ensures { BitsOf labels.now list.now c.now has.new }
 {
-    let n = 8 * list.len();
-    let mut x = 0;
-    while x < n {
-        let i = list[x / 8];
-        has[x] = bit(labels, Tet(i), c, (x % 8) as u8);
-        x += 1;
+    for (x, h) in has.iter_mut().enumerate() {
+        *h = bit(labels, Tet(list[x / 8]), c, (x % 8) as u8);
     }
 }
 
@@ -53,13 +49,10 @@ fn sides_of(has: &[u8], x: u8, y: u8, z: u8) -> usize
     let a = x as usize;
     let b = y as usize;
     let d = z as usize;
-    let n = has.len() / 8;
     let mut found: usize = 0;
-    let mut k = 0;
-    while k < n {
+    for k in 0..has.len() / 8 {
         let at = 8 * k;
         found += (has[at + a] * has[at + b] * has[at + d]) as usize;
-        k += 1;
     }
     found
 }
@@ -78,24 +71,14 @@ fn all_once(has: &[u8], rows: &[u8]) -> bool
     requires { Bits has.now × (low rows.now ≡ true) }
     ensures { result ≡ all (once (sides_by has.now)) (threes rows.now) }
 {
-    let k = rows.len() / 3;
-    let mut i = 0;
-    while i < k {
-        if sides_row(has, rows, i) != 1 {
-            return false;
-        }
-        i += 1;
-    }
-    true
+    (0..rows.len() / 3).all(|i| sides_row(has, rows, i) == 1)
 }
 
+#[tactic(auto, unfolding(cells::specs::Cells::none_or_two))]
 fn is_pair(k: usize) -> bool
     ensures { result ≡ none_or_two k }
 {
-    if k == 0 {
-        return true;
-    }
-    k == 2
+    k == 0 || k == 2
 }
 
 // The triples of the table are inside: each is a facet of none or of two.
@@ -103,31 +86,15 @@ fn all_paired(has: &[u8], rows: &[u8]) -> bool
     requires { Bits has.now × (low rows.now ≡ true) }
     ensures { result ≡ all (paired (sides_by has.now)) (threes rows.now) }
 {
-    let k = rows.len() / 3;
-    let mut i = 0;
-    while i < k {
-        if !is_pair(sides_row(has, rows, i)) {
-            return false;
-        }
-        i += 1;
-    }
-    true
+    (0..rows.len() / 3).all(|i| is_pair(sides_row(has, rows, i)))
 }
 
 // One diagonal's triangles count a and b, the other's d and e: the first is on the boundary, the second is not.
+#[tactic(auto, unfolding(cells::specs::between::Diagonal::is_diagonal, cells::specs::Cells::one))]
 fn is_diagonal(a: usize, b: usize, d: usize, e: usize) -> bool
     ensures { result ≡ is_diagonal a b d e }
 {
-    if a != 1 {
-        return false;
-    }
-    if b != 1 {
-        return false;
-    }
-    if !is_pair(d) {
-        return false;
-    }
-    is_pair(e)
+    a == 1 && b == 1 && is_pair(d) && is_pair(e)
 }
 
 // Quadrilateral i is covered by the triangles of exactly one of its diagonals.
@@ -144,25 +111,14 @@ fn covered(has: &[u8], quads: &[u8], i: usize) -> bool
     let ade = sides_of(has, a, d, e);
     let abe = sides_of(has, a, b, e);
     let bde = sides_of(has, b, d, e);
-    if is_diagonal(abd, ade, abe, bde) {
-        return true;
-    }
-    is_diagonal(abe, bde, abd, ade)
+    is_diagonal(abd, ade, abe, bde) || is_diagonal(abe, bde, abd, ade)
 }
 
 fn all_covered(has: &[u8], quads: &[u8]) -> bool
     requires { Bits has.now × (low quads.now ≡ true) }
     ensures { result ≡ all (covers (sides_by has.now)) (fours quads.now) }
 {
-    let k = quads.len() / 4;
-    let mut i = 0;
-    while i < k {
-        if !covered(has, quads, i) {
-            return false;
-        }
-        i += 1;
-    }
-    true
+    (0..quads.len() / 4).all(|i| covered(has, quads, i))
 }
 
 // 5, where the corners that the tetrahedra have are known.
@@ -170,13 +126,7 @@ fn is_filled_by(has: &[u8], triangles: &[u8], quads: &[u8], within: &[u8]) -> bo
     requires { Bits has.now × Lettered triangles.now quads.now within.now }
     ensures { result ≡ fills_by (sides_by has.now) triangles.now quads.now within.now }
 {
-    if !all_once(has, triangles) {
-        return false;
-    }
-    if !all_covered(has, quads) {
-        return false;
-    }
-    all_paired(has, within)
+    all_once(has, triangles) && all_covered(has, quads) && all_paired(has, within)
 }
 
 // 5: the tetrahedra listed fill the cell; `within` are the triples on no face,
@@ -206,13 +156,10 @@ fn all_of_part(parts: &[u16], list: &[u16], part: u16) -> bool
     requires { Within (length parts.now) list.now }
     ensures { result ≡ all (λ i. eqb part (get_or parts.now i 0)) list.now }
 {
-    let mut k = 0;
-    while k < list.len() {
-        let i = list[k] as usize;
-        if part != parts[i] {
+    for i in list {
+        if part != parts[*i as usize] {
             return false;
         }
-        k += 1;
     }
     true
 }
@@ -222,9 +169,5 @@ pub fn is_one_part(parts: &[u16], list: &[u16]) -> bool
     requires { Within (length parts.now) list.now }
     ensures { result ≡ all_agree (λ i. get_or parts.now i 0) list.now }
 {
-    if list.len() == 0 {
-        return true;
-    }
-    let i = list[0] as usize;
-    all_of_part(parts, list, parts[i])
+    list.is_empty() || all_of_part(parts, list, parts[list[0] as usize])
 }

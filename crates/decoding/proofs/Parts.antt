@@ -1,9 +1,9 @@
 -- What was read of the two parts is what the file says, and coordinates that pass the test are in bounds.
 -- Assumes nothing.
-use mathlib.Core.Path.{◌≡◌, ◌∙◌}
+use mathlib.Core.Path.{◌≡◌, refl, sym, ◌∙◌}
 use mathlib.Core.List.{List, [], ◌∷◌}
-use mathlib.Core.Bool.{true}
-use Prim.Native.Nat.{ℕ, zero, suc, ◌+◌, ◌*◌, ◌-◌}
+use mathlib.Core.Bool.{Bool, true, false, ◌&&◌}
+use Prim.Native.Nat.{ℕ, zero, suc, ◌+◌, ◌*◌, ◌-◌, ◌<◌}
 use native.Mathlib.Omega.{arith}
 use lib.ListN.{length, get_or, take, drop}
 use lib.IntN.{ℤ, pos}
@@ -36,3 +36,22 @@ near-close zs e = record { close = at zs e }
     at [] e i = record { small = omega arith }
     at (z ∷ zs) e zero = near-small z (and_left (near z) (all near zs) e)
     at (z ∷ zs) e (suc i) = at zs (and_right (near z) (all near zs) e) i
+
+and-false : (b : Bool) → (b && false) ≡ false
+and-false true = refl
+and-false false = refl
+
+-- a test of each entry is the test of all
+module _ {A : Type 0} (q : A → Bool) (d : A) where
+  all_hold : (xs : List A) → ((i : ℕ) → i < length xs → q (get_or xs i d) ≡ true) → true ≡ all q xs
+  all_hold [] h = refl
+  all_hold (x ∷ xs) h = rw (h 0 (omega arith)) (all_hold xs (λ i g. h (suc i) (omega arith)))
+
+  one_fails : (xs : List A) (i : ℕ) → i < length xs → q (get_or xs i d) ≡ false → false ≡ all q xs
+  one_fails [] i g e = absurd (omega arith)
+  one_fails (x ∷ xs) zero g e = rw e
+  one_fails (x ∷ xs) (suc i) g e = sym (rw (sym (one_fails xs i (omega arith) e)) (and-false (q x)))
+
+  pub all_by : (xs : List A) (r : Bool) → (r ≡ true → (i : ℕ) → i < length xs → q (get_or xs i d) ≡ true) → (r ≡ false → (i : ℕ) × (i < length xs) × (q (get_or xs i d) ≡ false)) → r ≡ all q xs
+  all_by xs true each some = all_hold xs (each refl)
+  all_by xs false each some = let w = some refl in one_fails xs w.0 w.1 w.2

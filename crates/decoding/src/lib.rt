@@ -16,10 +16,8 @@ fn read_coordinates(part: &[u8], coords: &mut [i64])
     requires { 4 * length coords.old ≤ length part.now }
     ensures { coords.new ≡ coords_in part.now (length coords.old) }
 {
-    let mut k = 0;
-    while k < coords.len() {
-        coords[k] = i32_at(part, 4 * k);
-        k += 1;
+    for (k, z) in coords.iter_mut().enumerate() {
+        *z = i32_at(part, 4 * k);
     }
 }
 
@@ -30,8 +28,7 @@ fn read_tets(part: &[u8], labels: &mut [u16], parts: &mut [u16])
     ensures numbers { labels.new ≡ labels_in part.now (length labels.old) }
     ensures partition { parts.new ≡ parts_in part.now (length parts.old) }
 {
-    let mut j = 0;
-    while j < parts.len() {
+    for j in 0..parts.len() {
         let from = 10 * j;
         let at = 4 * j;
         labels[at] = u16_at(part, from);
@@ -39,7 +36,6 @@ fn read_tets(part: &[u8], labels: &mut [u16], parts: &mut [u16])
         labels[at + 2] = u16_at(part, from + 4);
         labels[at + 3] = u16_at(part, from + 6);
         parts[j] = u16_at(part, from + 8);
-        j += 1;
     }
 }
 
@@ -67,12 +63,5 @@ pub fn decode(
 pub fn all_near(coords: &[i64]) -> bool
     ensures { result ≡ all near coords.now }
 {
-    let mut k = 0;
-    while k < coords.len() {
-        if !space::is_near(coords[k]) {
-            return false;
-        }
-        k += 1;
-    }
-    true
+    coords.iter().all(|z| space::is_near(*z))
 }

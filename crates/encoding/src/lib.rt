@@ -8,44 +8,20 @@ ghost use Rattle.encoding.specs.between.Measured.{Measured};
 
 // ---- little-endian numbers into a slice
 
-fn low(x: u16) -> u8
-    ensures { result ≡ x % 256 }
-{
-    (x % 256) as u8
-}
-
-fn high(x: u16) -> u8
-    ensures { result ≡ x / 256 % 256 }
-{
-    (x / 256) as u8
-}
-
+#[tactic(auto, unfolding(crate::specs::File::u16_bytes))]
 fn put_u16(out: &mut [u8], at: usize, x: u16)
     requires { at + 2 ≤ length out.old }
     ensures { Laid at (u16_bytes x) out.old out.new }
 {
-    out[at] = low(x);
-    out[at + 1] = high(x);
+    out[at..at + 2].copy_from_slice(&x.to_le_bytes());
 }
 
+#[tactic(auto, unfolding(crate::specs::File::u32_bytes, crate::specs::File::u16_bytes))]
 fn put_u32(out: &mut [u8], at: usize, x: u32)
     requires { at + 4 ≤ length out.old }
     ensures { Laid at (u32_bytes x) out.old out.new }
 {
-    put_u16(out, at, (x % 65536) as u16);
-    put_u16(out, at + 2, (x / 65536) as u16);
-}
-
-// The 32 bits of a signed number.
-fn bits(z: i32) -> u32
-    ensures { result ≡ bits_of z }
-{
-    let x = z as i64;
-    if x < 0 {
-        (x + 4294967296) as u32
-    } else {
-        x as u32
-    }
+    out[at..at + 4].copy_from_slice(&x.to_le_bytes());
 }
 
 // ---- the three parts
@@ -66,10 +42,8 @@ fn put_points(out: &mut [u8], coordinates: &[i32])
     requires { 24 + 4 * length coordinates.now ≤ length out.old }
     ensures { Laid 24 (coord_bytes coordinates.now) out.old out.new }
 {
-    let mut k = 0;
-    while k < coordinates.len() {
-        put_u32(out, 24 + 4 * k, bits(coordinates[k]));
-        k += 1;
+    for (k, z) in coordinates.iter().enumerate() {
+        put_u32(out, 24 + 4 * k, z.cast_unsigned());
     }
 }
 
@@ -89,10 +63,8 @@ fn put_tets(out: &mut [u8], from: usize, numbers: &[u16], parts: &[u16])
     requires { (from + 10 * length parts.now ≤ length out.old) × (length numbers.now ≡ 4 * length parts.now) }
     ensures { Laid from (tets_bytes numbers.now parts.now) out.old out.new }
 {
-    let mut j = 0;
-    while j < parts.len() {
+    for j in 0..parts.len() {
         put_tet(out, from + 10 * j, numbers, parts, j);
-        j += 1;
     }
 }
 

@@ -1,14 +1,14 @@
 -- What stores of hints add up to, and that hints of every tetrahedron are hints of every facet.
 -- Assumes nothing.
-use Prim.Native.Nat.{ℕ, ◌/◌, ◌%◌, ◌<◌}
+use Prim.Native.Nat.{ℕ, suc, ◌+◌, ◌/◌, ◌%◌, ◌<◌}
 use mathlib.Core.Path.{◌≡◌, refl, sym, ◌∙◌, ap}
 use mathlib.Core.Bool.{Bool, true, false, not, ◌||◌}
 use mathlib.Core.List.{List, [], ◌∷◌}
 use native.Mathlib.Omega.{arith}
 use borrow.Author.Tests.{eqb-true, eqb-false}
 use lib.Dec.{eqb}
-use lib.ListN.{length, get_or, set, length-set}
-use lib.Seq.{get_or-set_same, get_or-set_other}
+use lib.ListN.{length, get_or, set, drop, length-set}
+use lib.Seq.{drop-cons, get_or-set_same, get_or-set_other}
 use Rattle.base.specs.Lists.{up_to, is_in}
 use Rattle.base.specs.between.Stores.{Below}
 use Rattle.base.proofs.Stores.{earlier, stores_then}
@@ -50,6 +50,10 @@ unfolding hinted hint_place
 hinted-last m u v w e = ap (λ n. not (eqb (get_or m (n % hint_places) 0) 0)) (hash3-last u w v) ∙ e
 
 -- ── one after the other ──
+
+-- what is left of a list, its first first
+pub front : (xs : List ℕ) (i : ℕ) → i < length xs → drop i xs ≡ get_or xs i 0 ∷ drop (i + 1) xs
+front xs i h = let e : suc i ≡ i + 1 = omega arith in drop-cons xs i 0 h ∙ ap (λ j. get_or xs i 0 ∷ drop j xs) e
 
 -- the first of a list, or one of the others
 among : (x a : ℕ) (vs : List ℕ) {P : Type 0} → is_in x (a ∷ vs) ≡ true → (is_in x (a ∷ []) ≡ true → P) → (is_in x vs ≡ true → P) → P

@@ -11,6 +11,8 @@ use borrow.Author.Tests.{eqb-true, eqb-false, eq-eqb, ne_eqb}
 use lib.Dec.{eqb}
 use lib.ListN.{length, get_or, set, length-set}
 use lib.Seq.{get_or-set_same, get_or-set_other}
+use Rattle.std.specs.Prelude.{Some, None}
+use Rattle.std.proofs.lemmas.Option.{none-some, same_Some}
 use Rattle.base.specs.Lists.{is_in, distinct}
 use Rattle.base.specs.between.Stores.{Below}
 use Rattle.base.proofs.Stores.{stores_either}
@@ -148,5 +150,9 @@ all_told {p} {p'} {ls} l t = record {
 }
 
 -- what stands at the place of three different vertices
-pub named : {ls ps : List ℕ} → PairsOf ls ps → (a b c k : ℕ) → distinct (a ∷ b ∷ c ∷ []) ≡ true → k ≡ pair_place a b c → Names ls a b c (record { many = eqb (get_or ps (2 * k + 1) 0) 65535; one = get_or ps (2 * k) 0; two = get_or ps (2 * k + 1) 0 })
-named t a b c k d e = record { among = λ n m h o. ⊎_elim (λ f. absurd (eqb-false _ _ n f)) (λ s. s) (rw (← e) at (t.told m a b c h d o)) }
+pub named : {ls ps : List ℕ} → PairsOf ls ps → (a b c k : ℕ) → distinct (a ∷ b ∷ c ∷ []) ≡ true → k ≡ pair_place a b c → (get_or ps (2 * k + 1) 0 ≡ 65535 → ⊥) → Names ls a b c (Some (get_or ps (2 * k) 0, get_or ps (2 * k + 1) 0))
+named {ls} {ps} t a b c k d e n = record { among = λ pair s m h o. ⊎_elim (λ f. absurd (n f)) (λ g. rw (← same_Some _ pair s) g) (rw (← e) at (t.told m a b c h d o)) }
+
+-- many: none is named
+pub named_none : {ls : List ℕ} (a b c : ℕ) → Names ls a b c None
+named_none a b c = record { among = λ pair s. absurd (none-some pair s) }

@@ -17,11 +17,12 @@ use Rattle.base.proofs.Members.{from_at}
 use Rattle.space.specs.Arrays.{row4}
 use Rattle.tets_around.specs.between.Index.{Labelled}
 use Rattle.tets_around.specs.Sharing.{has_all, sharers}
-use Rattle.facet_pairs.specs.declared.Pair.{Pair}
+use Rattle.std.specs.Prelude.{Option, Some, None, is_some}
 use Rattle.facet_pairs.specs.between.Pairs.{Names}
+use Rattle.space.specs.declared.Vertex.{Vertex}
 use Rattle.facets.specs.declared.Facet.{Facet}
 use Rattle.facets.specs.Facets.{full, clashes, clashing}
-use Rattle.facets.specs.between.Tries.{at_facet, Tries}
+use Rattle.facets.specs.between.Tries.{facet_of, at_facet, Tries}
 use Rattle.tets.proofs.Labelled.{none-at}
 use Rattle.facets.proofs.Tests.{clash_has}
 
@@ -60,12 +61,15 @@ module _ (x : ℕ) where
 
 -- ---- no third tetrahedron has the facet
 
-pub no_third : {ls : List ℕ} {a b c : ℕ} {r : Pair} (u : ℕ) → Names ls a b c r → r.many ≡ false → full ls u a b c ≡ false
+pub no_third : {ls : List ℕ} {a b c : ℕ} {r : Option (ℕ × ℕ)} (u : ℕ) → Names ls a b c r → is_some r ≡ true → full ls u a b c ≡ false
 unfolding full
-no_third {ls} {a} {b} {c} {r} u s n =
+no_third {r = None} u s n = absurd (false≢true n)
+no_third {ls} {a} {b} {c} {r = Some pair} u s n =
     let t = length ls / 4 in
-    let h = count-either (has_all ls (a ∷ b ∷ c ∷ [])) (is r.one) (is r.two) t 0 (λ m l o. ⊎_elim (λ e. inl (eq-eqb r.one (m + 1) e)) (λ e. inr (eq-eqb r.two (m + 1) e)) (s.among n m (omega arith) o)) in
-    lt-leb 3 (sharers ls (a ∷ b ∷ c ∷ [])) (omega (arith, h, count-one r.one t 0, count-one r.two t 0))
+    let one = pair.0 in
+    let two = pair.1 in
+    let h = count-either (has_all ls (a ∷ b ∷ c ∷ [])) (is one) (is two) t 0 (λ m l o. ⊎_elim (λ e. inl (eq-eqb one (m + 1) e)) (λ e. inr (eq-eqb two (m + 1) e)) (s.among pair refl m (omega arith) o)) in
+    lt-leb 3 (sharers ls (a ∷ b ∷ c ∷ [])) (omega (arith, h, count-one one t 0, count-one two t 0))
 
 -- ---- no other tetrahedron clashes
 
@@ -92,9 +96,9 @@ module _ {zs : List ℤ} {ls : List ℕ} {v : Facet} where
   }
 
   -- of two that are tried, the second decides where the first is not it
-  pub tries_two : {p : Pair} {r s : Bool} → Names ls v.a.0 v.b.0 v.c.0 p → p.many ≡ false → Tries zs ls v p.one r → r ≡ false → Tries zs ls v p.two s → s ≡ at_facet (clashing zs ls v.e.0) v
+  pub tries_two : {p : Option (ℕ × ℕ)} {one two : ℕ} {r s : Bool} → Names ls v.a.0 v.b.0 v.c.0 p → p ≡ Some (one, two) → Tries zs ls v one r → r ≡ false → Tries zs ls v two s → s ≡ at_facet (clashing zs ls v.e.0) v
   unfolding clashing
-  tries_two {p} {r} {s} n w f g h = go s refl (any (clash zs ls v) (up_to (length ls / 4))) refl
+  tries_two {p} {one} {two} {r} {s} n w f g h = go s refl (any (clash zs ls v) (up_to (length ls / 4))) refl
     where
       go : (s' : Bool) → s ≡ s' → (d : Bool) → any (clash zs ls v) (up_to (length ls / 4)) ≡ d → s ≡ any (clash zs ls v) (up_to (length ls / 4))
       go true i d j = i ∙ sym (h.some i)
@@ -102,7 +106,7 @@ module _ {zs : List ℤ} {ls : List ℕ} {v : Facet} where
       go false i true j =
           let m = any_at (clash zs ls v) (up_to (length ls / 4)) j in
           let l = (from_at 0 (length ls / 4) m.1).1 in
-          absurd (⊎_elim (λ k. false≢true (sym g ∙ f.found m.0 (omega arith) k m.2)) (λ k. false≢true (sym i ∙ h.found m.0 (omega arith) k m.2)) (n.among w m.0 (omega arith) (clash_has zs ls v.e.0 v.u.0 v.a.0 v.b.0 v.c.0 m.0 m.2)))
+          absurd (⊎_elim (λ k. false≢true (sym g ∙ f.found m.0 (omega arith) k m.2)) (λ k. false≢true (sym i ∙ h.found m.0 (omega arith) k m.2)) (n.among (one, two) w m.0 (omega arith) (clash_has zs ls v.e.0 v.u.0 v.a.0 v.b.0 v.c.0 m.0 m.2)))
 
 -- ---- the vertices of a facet
 
@@ -130,3 +134,7 @@ apart a b c d t = go (eqb a b) (eqb a c) (eqb a d) (eqb b c) (eqb b d) (eqb c d)
 
 pub facets-apart : {ls cs : List ℕ} {n : ℕ} (e : ℕ) → Labelled ls n → e < length ls / 4 → cs ≡ row4 ls e → Apart (get_or cs 0 0) (get_or cs 1 0) (get_or cs 2 0) (get_or cs 3 0)
 facets-apart {ls} e w h q = rw q (apart (get_or ls (4 * e) 0) (get_or ls (4 * e + 1) 0) (get_or ls (4 * e + 2) 0) (get_or ls (4 * e + 3) 0) (w.apart e h))
+
+-- for a place past the facets
+abbrev pub no_facet : Facet
+no_facet = let v : Vertex = record { 0 = 0 } in facet_of (record { 0 = 0 }) v v v v

@@ -6,7 +6,6 @@ ghost use Rattle.std.specs.Prelude.{◌≡◌, ◌≤◌, ◌<◌, length};
 ghost use Rattle.base.specs.Lists.{up_to};
 ghost use Rattle.space.specs.Box.{is_above0};
 ghost use Rattle.space.specs.between.Working.{Close};
-ghost use Rattle.tets_around.specs.between.Index.{Indexed};
 ghost use Rattle.tets_around.specs.Sharing.{together_in};
 ghost use Rattle.templates.specs.Tables.{template_of, tuple_of, at};
 ghost use Rattle.templates.specs.between.Flat.{pairs};
@@ -16,8 +15,10 @@ ghost use Rattle.reasons.specs.First.{first_fail};
 ghost use Rattle.reasons.specs.Reason.{is_new, faces_by, faces, is_there};
 
 use cells::{edge, facet, sound_at, split};
+use reasons::first_fail;
 use templates::is_in;
-use verdict::{Bounds, all_rows, bounds_of};
+use tets_around::Index;
+use verdict::tables_of;
 
 // ---- condition 1
 
@@ -26,24 +27,13 @@ fn is_new(n: usize, c: &[u16], i: usize) -> bool
     requires { i < length c.now }
     ensures { result ≡ is_new n c.now i }
 {
-    let v = c[i];
-    if n <= v as usize {
-        return false;
-    }
-    !is_in(v, &c[..i])
+    (c[i] as usize) < n && !is_in(c[i], &c[..i])
 }
 
 fn corner_in(n: usize, c: &[u16]) -> usize
     ensures { result ≡ first_fail (is_new n c.now) (up_to (length c.now)) }
 {
-    let mut i = 0;
-    while i < c.len() {
-        if !is_new(n, c, i) {
-            return i;
-        }
-        i += 1;
-    }
-    i
+    first_fail(c.len(), |i| is_new(n, c, i))
 }
 
 // The place of the first corner that is not below n or stands at an earlier place too.
@@ -51,175 +41,61 @@ pub fn first_corner(n: usize, kind: u16, tuple: &[u16]) -> u16
     requires { 8 ≤ length tuple.now }
     ensures { result ≡ first_fail (is_new n (tuple_of kind tuple.now)) (up_to (template_of kind).corners) }
 {
-    let Bounds {
-        corners,
-        edges: _,
-        triangles: _,
-        quads: _,
-        triples: _,
-        within: _,
-        end: _,
-    } = bounds_of(kind);
-    corner_in(n, &tuple[..corners]) as u16
+    let tables = tables_of(kind);
+    corner_in(n, &tuple[..tables.corners]) as u16
 }
 
 // ---- condition 2
 
-fn edge_in(
-    labels: &[u16],
-    n: usize,
-    offsets: &[u16],
-    entries: &[u16],
-    c: &[u16],
-    rows: &[u8],
-) -> usize
-    requires { Indexed labels.now n offsets.now entries.now }
-    ensures { result ≡ first_fail (λ ks. together_in labels.now (at c.now ks)) (pairs rows.now) }
+fn edge_in(ix: &Index<'_>, c: &[u16], rows: &[u8]) -> usize
+    ensures { result ≡ first_fail (λ ks. together_in ix.now.labels.now (at c.now ks)) (pairs rows.now) }
 {
-    let k = rows.len() / 2;
-    let mut i = 0;
-    while i < k {
-        if !edge(labels, n, offsets, entries, c, rows, i) {
-            return i;
-        }
-        i += 1;
-    }
-    i
+    first_fail(rows.len() / 2, |i| edge(ix, c, rows, i))
 }
 
 // The row of the first edge that is no edge of the mesh.
-pub fn first_edge(
-    labels: &[u16],
-    n: usize,
-    offsets: &[u16],
-    entries: &[u16],
-    kind: u16,
-    tuple: &[u16],
-) -> u16
-    requires { Indexed labels.now n offsets.now entries.now × (8 ≤ length tuple.now) }
-    ensures { result ≡ first_fail (λ ks. together_in labels.now (at (tuple_of kind tuple.now) ks)) (template_of kind).edges }
+pub fn first_edge(ix: &Index<'_>, kind: u16, tuple: &[u16]) -> u16
+    requires { 8 ≤ length tuple.now }
+    ensures { result ≡ first_fail (λ ks. together_in ix.now.labels.now (at (tuple_of kind tuple.now) ks)) (template_of kind).edges }
 {
-    let table = all_rows();
-    let all = &table[..];
-    let Bounds {
-        corners,
-        edges,
-        triangles,
-        quads: _,
-        triples: _,
-        within: _,
-        end: _,
-    } = bounds_of(kind);
-    edge_in(
-        labels,
-        n,
-        offsets,
-        entries,
-        &tuple[..corners],
-        &all[edges..triangles],
-    ) as u16
+    let tables = tables_of(kind);
+    edge_in(ix, &tuple[..tables.corners], tables.edges) as u16
 }
 
 // ---- condition 3
 
-fn facet_in(
-    labels: &[u16],
-    n: usize,
-    offsets: &[u16],
-    entries: &[u16],
-    c: &[u16],
-    rows: &[u8],
-) -> usize
-    requires { Indexed labels.now n offsets.now entries.now }
-    ensures { result ≡ first_fail (facet_in labels.now c.now) (threes rows.now) }
+fn facet_in(ix: &Index<'_>, c: &[u16], rows: &[u8]) -> usize
+    ensures { result ≡ first_fail (facet_in ix.now.labels.now c.now) (threes rows.now) }
 {
-    let k = rows.len() / 3;
-    let mut i = 0;
-    while i < k {
-        if !facet(labels, n, offsets, entries, c, rows, i) {
-            return i;
-        }
-        i += 1;
-    }
-    i
+    first_fail(rows.len() / 3, |i| facet(ix, c, rows, i))
 }
 
-fn split_in(
-    labels: &[u16],
-    n: usize,
-    offsets: &[u16],
-    entries: &[u16],
-    c: &[u16],
-    rows: &[u8],
-) -> usize
-    requires { Indexed labels.now n offsets.now entries.now }
-    ensures { result ≡ first_fail (splits (facet_in labels.now c.now)) (fours rows.now) }
+fn split_in(ix: &Index<'_>, c: &[u16], rows: &[u8]) -> usize
+    ensures { result ≡ first_fail (splits (facet_in ix.now.labels.now c.now)) (fours rows.now) }
 {
-    let k = rows.len() / 4;
-    let mut i = 0;
-    while i < k {
-        if !split(labels, n, offsets, entries, c, rows, i) {
-            return i;
-        }
-        i += 1;
-    }
-    i
+    first_fail(rows.len() / 4, |i| split(ix, c, rows, i))
 }
 
 // Triangles before quadrilaterals.
-fn face_in(
-    labels: &[u16],
-    n: usize,
-    offsets: &[u16],
-    entries: &[u16],
-    c: &[u16],
-    triangles: &[u8],
-    quads: &[u8],
-) -> usize
-    requires { Indexed labels.now n offsets.now entries.now }
-    ensures { result ≡ first_fail (is_there (facet_in labels.now c.now))
+fn face_in(ix: &Index<'_>, c: &[u16], triangles: &[u8], quads: &[u8]) -> usize
+    ensures { result ≡ first_fail (is_there (facet_in ix.now.labels.now c.now))
         (faces_by (threes triangles.now) (fours quads.now)) }
 {
-    let i = facet_in(labels, n, offsets, entries, c, triangles);
+    let i = facet_in(ix, c, triangles);
     if i < triangles.len() / 3 {
         return i;
     }
-    i + split_in(labels, n, offsets, entries, c, quads)
+    i + split_in(ix, c, quads)
 }
 
 // The row of the first face that is not there: a triangle that is no facet, or a quadrilateral that no diagonal splits
 // into two facets.
-pub fn first_face(
-    labels: &[u16],
-    n: usize,
-    offsets: &[u16],
-    entries: &[u16],
-    kind: u16,
-    tuple: &[u16],
-) -> u16
-    requires { Indexed labels.now n offsets.now entries.now × (8 ≤ length tuple.now) }
-    ensures { result ≡ first_fail (is_there (facet_in labels.now (tuple_of kind tuple.now))) (faces (template_of kind)) }
+pub fn first_face(ix: &Index<'_>, kind: u16, tuple: &[u16]) -> u16
+    requires { 8 ≤ length tuple.now }
+    ensures { result ≡ first_fail (is_there (facet_in ix.now.labels.now (tuple_of kind tuple.now))) (faces (template_of kind)) }
 {
-    let table = all_rows();
-    let all = &table[..];
-    let Bounds {
-        corners,
-        edges: _,
-        triangles,
-        quads,
-        triples,
-        within: _,
-        end: _,
-    } = bounds_of(kind);
-    face_in(
-        labels,
-        n,
-        offsets,
-        entries,
-        &tuple[..corners],
-        &all[triangles..quads],
-        &all[quads..triples],
-    ) as u16
+    let tables = tables_of(kind);
+    face_in(ix, &tuple[..tables.corners], tables.triangles, tables.quads) as u16
 }
 
 // ---- condition 4
@@ -228,15 +104,7 @@ fn box_in(coords: &[i64], c: &[u16], rows: &[u8]) -> usize
     requires { Close coords.now }
     ensures { result ≡ first_fail (λ ks. is_above0 (box_of (points_of coords.now) (at c.now ks))) (fours rows.now) }
 {
-    let k = rows.len() / 4;
-    let mut i = 0;
-    while i < k {
-        if !sound_at(coords, c, rows, i) {
-            return i;
-        }
-        i += 1;
-    }
-    i
+    first_fail(rows.len() / 4, |i| sound_at(coords, c, rows, i))
 }
 
 // The row of the first corner triple whose box is not above 0.
@@ -245,16 +113,6 @@ pub fn first_box(coords: &[i64], kind: u16, tuple: &[u16]) -> u16
     ensures { result ≡ first_fail (λ ks. is_above0 (box_of (points_of coords.now) (at (tuple_of kind tuple.now) ks)))
         (template_of kind).triples }
 {
-    let table = all_rows();
-    let all = &table[..];
-    let Bounds {
-        corners,
-        edges: _,
-        triangles: _,
-        quads: _,
-        triples,
-        within,
-        end: _,
-    } = bounds_of(kind);
-    box_in(coords, &tuple[..corners], &all[triples..within]) as u16
+    let tables = tables_of(kind);
+    box_in(coords, &tuple[..tables.corners], tables.triples) as u16
 }

@@ -10,7 +10,7 @@ use borrow.Author.Tests.{eqb-true, eqb-false, eq-eqb, not-true}
 use lib.Dec.{eqb}
 use lib.ListN.{length, get_or, set, replicate}
 use lib.Seq.{get_or-set_same, get_or-set_other, set_out}
-use Rattle.base.specs.Lists.{all, any, keep, from, up_to, is_in}
+use Rattle.base.specs.Lists.{all, any, keep, up_to, is_in}
 use Rattle.base.proofs.Bools.{and_left, and_right}
 use Rattle.base.proofs.Lists.{all-at}
 use Rattle.base.proofs.Members.{keep-has, map-has, from-has}

@@ -4,20 +4,20 @@
 ghost use Rattle.std.specs.Prelude.{◌≡◌, ◌/◌, ◌≤◌, ◌<◌, length, get_or, set, replicate};
 ghost use Rattle.base.specs.Lists.{is_in};
 ghost use Rattle.space.specs.between.Working.{around};
-ghost use Rattle.tets_around.specs.between.Index.{Indexed};
 ghost use Rattle.tets_around.specs.between.Build.{Within};
 ghost use Rattle.cells.specs.between.Rows.{fours, owns, owns_by, own_numbers_by};
 ghost use Rattle.filling.specs.between.Numbered.{Numbered, pushed};
 ghost use Rattle.own.specs.between.Stamps.{Stamped};
 ghost use Rattle.filling.specs.between.Next.{NeverFalls, ReadUpTo, Saw, left_out, Aside, NextOfAll, AllReadUpTo};
 
-use cells::corners4;
+use cells::corners_at;
 use own::{is_hit, stamp};
 use record::{TET_PLACES, UNUSED};
 use space::{Tet, Vertex};
-use tets_around::around_row;
+use tets_around::Index;
 
-// How many tetrahedra a cell has, and the numbers of the first, as many as a record has places for, rising.
+// How many tetrahedra a cell has, and the numbers of the first, as many as a record has places for, rising. There is no
+// heap: so the list is an array of the most, and the count stands beside it.
 #[derive(Clone, Copy)]
 pub struct Tets {
     pub count: usize,
@@ -63,8 +63,7 @@ fn least_in(labels: &[u16], row: &[u16], s: Span, m: &[u8; 512], c: &[u16], quad
     requires stamped { Stamped c.now (length c.now) m.now × ReadUpTo (owns_by labels.now quads.now c.now) s.lo row.now s.from }
     ensures { Saw (owns_by labels.now quads.now c.now) s row.now result }
 {
-    let mut at = s.from;
-    while at < row.len() {
+    for at in s.from..row.len() {
         let i = row[at];
         let j = i as usize;
         if s.hi <= j {
@@ -73,85 +72,50 @@ fn least_in(labels: &[u16], row: &[u16], s: Span, m: &[u8; 512], c: &[u16], quad
         if is_hit(labels, Tet(i), s.lo, m, c, quads) {
             return RowRead { least: j, at };
         }
-        at += 1;
     }
-    RowRead { least: s.hi, at }
+    RowRead {
+        least: s.hi,
+        at: row.len(),
+    }
 }
 
 // The corners of one quadrilateral of a cell, and how many tetrahedra they have.
 #[derive(Clone, Copy)]
 struct Crowd {
-    a: Vertex,
-    b: Vertex,
-    d: Vertex,
-    e: Vertex,
+    corners: [u16; 4],
     size: usize,
 }
 
-// How many tetrahedra a vertex has.
-fn size_of(labels: &[u16], n: usize, offsets: &[u16], entries: &[u16], v: Vertex) -> usize
-    requires { Indexed labels.now n offsets.now entries.now }
-    ensures { result ≤ length entries.now }
-{
-    let row = around_row(labels, n, offsets, entries, v);
-    row.size
-}
-
 // The corners of quadrilateral i. A tetrahedron on these alone is not one of the cell's.
-fn crowd_at(
-    labels: &[u16],
-    n: usize,
-    offsets: &[u16],
-    entries: &[u16],
-    c: &[u16],
-    quads: &[u8],
-    i: usize,
-) -> Crowd
-    requires { Indexed labels.now n offsets.now entries.now × (i < length quads.now / 4) }
-    ensures { Aside (owns labels.now (fours quads.now) c.now) labels.now (left_out result) }
+fn crowd_at(ix: &Index<'_>, c: &[u16], quads: &[u8], i: usize) -> Crowd
+    requires { i < length quads.now / 4 }
+    ensures { Aside (owns ix.now.labels.now (fours quads.now) c.now) ix.now.labels.now (left_out result) }
 {
-    let q = corners4(c, quads, i);
-    let x = size_of(labels, n, offsets, entries, Vertex(q[0]));
-    let y = size_of(labels, n, offsets, entries, Vertex(q[1]));
-    let z = size_of(labels, n, offsets, entries, Vertex(q[2]));
-    let w = size_of(labels, n, offsets, entries, Vertex(q[3]));
+    let q = corners_at::<4>(c, quads, i);
+    let x = ix.row(Vertex(q[0])).size;
+    let y = ix.row(Vertex(q[1])).size;
+    let z = ix.row(Vertex(q[2])).size;
+    let w = ix.row(Vertex(q[3])).size;
     Crowd {
-        a: Vertex(q[0]),
-        b: Vertex(q[1]),
-        d: Vertex(q[2]),
-        e: Vertex(q[3]),
+        corners: q,
         size: x + y + z + w,
     }
 }
 
 // The corners to leave out: of the quadrilaterals, one whose corners have the most. The choice is a matter of speed
 // alone.
-fn crowd_of(
-    labels: &[u16],
-    n: usize,
-    offsets: &[u16],
-    entries: &[u16],
-    c: &[u16],
-    quads: &[u8],
-) -> Crowd
-    requires { Indexed labels.now n offsets.now entries.now }
-    ensures { Aside (owns labels.now (fours quads.now) c.now) labels.now (left_out result) }
+fn crowd_of(ix: &Index<'_>, c: &[u16], quads: &[u8]) -> Crowd
+    ensures { Aside (owns ix.now.labels.now (fours quads.now) c.now) ix.now.labels.now (left_out result) }
 {
     let mut w = Crowd {
-        a: Vertex(65535),
-        b: Vertex(65535),
-        d: Vertex(65535),
-        e: Vertex(65535),
+        corners: [65535; 4],
         size: 0,
     };
-    let m = quads.len() / 4;
-    let mut i = 0;
-    while i < m {
-        let y = crowd_at(labels, n, offsets, entries, c, quads, i);
+    for i in 0..quads.len() / 4 {
+        let y = crowd_at(ix, c, quads, i);
         if w.size < y.size {
             w = y;
         }
-        i += 1;
     }
     w
 }
@@ -160,28 +124,7 @@ fn crowd_of(
 fn is_left_out(w: Crowd, v: Vertex) -> bool
     ensures { result ≡ is_in v.0 (left_out w) }
 {
-    let v = v.0;
-    if v == w.a.0 {
-        return true;
-    }
-    if v == w.b.0 {
-        return true;
-    }
-    if v == w.d.0 {
-        return true;
-    }
-    v == w.e.0
-}
-
-// The tetrahedra around a vertex, as they stand in the index.
-fn row_at<'a>(labels: &[u16], n: usize, offsets: &[u16], entries: &'a [u16], v: Vertex) -> &'a [u16]
-    requires { Indexed labels.now n offsets.now entries.now }
-    ensures { result.now ≡ around labels.now v.0 }
-{
-    let row = around_row(labels, n, offsets, entries, v);
-    let from = row.from;
-    let end = from + row.size;
-    &entries[from..end]
+    w.corners.contains(&v.0)
 }
 
 // For each of the first 8 corners, the place that its row is read up to: at first none.
@@ -211,10 +154,7 @@ fn put_place(places: &mut [usize], k: usize, at: usize)
 // The next of the cell's tetrahedra, from lo on; the number of all where there is none. Each has a corner of the cell
 // that is not left out, so it is looked for around these, in each row from its place on.
 fn next_own(
-    labels: &[u16],
-    n: usize,
-    offsets: &[u16],
-    entries: &[u16],
+    ix: &Index<'_>,
     lo: usize,
     w: Crowd,
     m: &[u8; 512],
@@ -222,65 +162,44 @@ fn next_own(
     c: &[u16],
     quads: &[u8],
 ) -> usize
-    requires indexed { Indexed labels.now n offsets.now entries.now × Stamped c.now (length c.now) m.now }
-    requires aside { Aside (owns_by labels.now quads.now c.now) labels.now (left_out w)
-        × AllReadUpTo (owns_by labels.now quads.now c.now) labels.now c.now lo places.old }
-    ensures { NextOfAll (owns_by labels.now quads.now c.now) lo (length labels.now / 4) result
-        × AllReadUpTo (owns_by labels.now quads.now c.now) labels.now c.now lo places.new }
+    requires stamped { Stamped c.now (length c.now) m.now }
+    requires aside { Aside (owns_by ix.now.labels.now quads.now c.now) ix.now.labels.now (left_out w)
+        × AllReadUpTo (owns_by ix.now.labels.now quads.now c.now) ix.now.labels.now c.now lo places.old }
+    ensures { NextOfAll (owns_by ix.now.labels.now quads.now c.now) lo (length ix.now.labels.now / 4) result
+        × AllReadUpTo (owns_by ix.now.labels.now quads.now c.now) ix.now.labels.now c.now lo places.new }
 {
-    let mut hi = labels.len() / 4;
-    let mut k = 0;
-    while k < c.len() {
-        let v = c[k];
-        if is_left_out(w, Vertex(v)) {
-            k += 1;
+    let mut hi = ix.labels.len() / 4;
+    for (k, v) in c.iter().enumerate() {
+        let v = Vertex(*v);
+        if is_left_out(w, v) {
             continue;
         }
-        let row = row_at(labels, n, offsets, entries, Vertex(v));
+        let row = ix.around(v);
         let from = place_of(places, k);
-        let seen = least_in(labels, row, Span { from, lo, hi }, m, c, quads);
+        let seen = least_in(ix.labels, row, Span { from, lo, hi }, m, c, quads);
         hi = seen.least;
         put_place(places, k, seen.at);
-        k += 1;
     }
     hi
 }
 
 // The tetrahedra of the cell on these corners, one after the other.
-pub fn find(
-    labels: &[u16],
-    n: usize,
-    offsets: &[u16],
-    entries: &[u16],
-    c: &[u16],
-    quads: &[u8],
-) -> Tets
-    requires { Indexed labels.now n offsets.now entries.now }
-    ensures { Numbered (own_numbers_by labels.now quads.now c.now) result }
+pub fn find(ix: &Index<'_>, c: &[u16], quads: &[u8]) -> Tets
+    ensures { Numbered (own_numbers_by ix.now.labels.now quads.now c.now) result }
 {
-    let t = labels.len() / 4;
-    let w = crowd_of(labels, n, offsets, entries, c, quads);
+    let t = ix.labels.len() / 4;
+    let w = crowd_of(ix, c, quads);
     let m = stamp(c);
     let mut places = no_places();
     let mut found = Tets {
         count: 0,
         list: [UNUSED; TET_PLACES],
     };
-    let mut i = next_own(labels, n, offsets, entries, 0, w, &m, &mut places, c, quads);
+    let mut i = next_own(ix, 0, w, &m, &mut places, c, quads);
+    // Each number is looked for from the one before it, so this is no range.
     while i < t {
         found = push(found, Tet(i as u16));
-        i = next_own(
-            labels,
-            n,
-            offsets,
-            entries,
-            i + 1,
-            w,
-            &m,
-            &mut places,
-            c,
-            quads,
-        );
+        i = next_own(ix, i + 1, w, &m, &mut places, c, quads);
     }
     found
 }

@@ -1,11 +1,10 @@
 -- What is found by a mesh's arrays is what is found of the mesh.
 -- Assumes nothing.
-use Prim.Native.Nat.{ℕ, ◌/◌, ◌≤◌}
+use Prim.Native.Nat.{ℕ, ◌/◌}
 use mathlib.Core.Path.{◌≡◌, refl, sym, ◌∙◌, ap, fun_ext}
 use mathlib.Core.Bool.{Bool, true, false, cond, ◌&&◌}
 use mathlib.Core.List.{List}
 use native.Mathlib.Omega.{arith}
-use borrow.Author.Tests.{ne_eqb}
 use lib.Dec.{eqb, ltb}
 use lib.IntN.{ℤ}
 use lib.ListN.{length}
@@ -53,9 +52,9 @@ module _ (zs : List ℤ) (ls ps : List ℕ) (t : Template) (c : List ℕ) where
   unfolding finding_at
   open-found q e = rw q (e ∙ ap (λ g. found_open g c (faces t) (others g (inside t) t.quads)) (sym (fun_ext (sides-in zs ls ps t c))))
 
-  pub parts-found : (k : ℕ) → 1 ≤ k → (k ≡ 1 → ⊥) → (k ≡ 2 → ⊥) → (k ≡ 3 → ⊥) → (k ≡ 4 → ⊥) → (k ≡ 5 → ⊥) → TwoParts ≡ finding_at (mesh_of zs ls ps) t c k
+  pub parts-found : {k : ℕ} → k ≡ 6 → TwoParts ≡ finding_at (mesh_of zs ls ps) t c k
   unfolding finding_at
-  parts-found k h a b d e f = rw (ne_eqb k 0 (λ z. omega arith), ne_eqb k 1 a, ne_eqb k 2 b, ne_eqb k 3 d, ne_eqb k 4 e, ne_eqb k 5 f)
+  parts-found q = rw q refl
 
 -- ---- a cell
 

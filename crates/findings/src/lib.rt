@@ -2,34 +2,30 @@
 // by numbers.
 #![tactic(auto)]
 
-ghost use Rattle.std.specs.Prelude.{◌≡◌, true, List, ℕ, ◌/◌, ◌≤◌, length};
+ghost use Rattle.std.specs.Prelude.{◌≡◌, true, ◌≤◌, length};
 ghost use Rattle.base.specs.Lists.{distinct};
 ghost use Rattle.space.specs.Arrays.{mesh_of};
-ghost use Rattle.space.specs.between.Working.{Close};
-ghost use Rattle.tets_around.specs.between.Index.{Indexed};
-ghost use Rattle.tets_around.specs.between.Arrays.{Arrays};
 ghost use Rattle.templates.specs.Tables.{template_of, tuple_of, is_kind};
 ghost use Rattle.reasons.specs.Reason.{cell_by, turned_by, found_cell, finding_at, finding_of};
-ghost use Rattle.reasons.specs.Numbers.{finding_number, entries_left};
+ghost use Rattle.reasons.specs.Numbers.{entries_of};
+ghost use Rattle.judging.specs.between.Last.{number};
 ghost use Rattle.findings.specs.between.Numbers.{form_numbers};
 
 use failing::{first_box, first_corner, first_edge, first_face};
 use least::is_least;
 use open_triples::open_at;
 use reasons::Finding;
-use turning::{Least, least_form};
-use verdict::judge;
+use tets_around::Mesh;
+use turning::least_form;
+use verdict::{Condition, judge};
 
 // ---- a cell
 
 // The eight numbers of a least form; a refusal has none.
-fn numbers(form: Least) -> [u16; 8]
+fn numbers(form: Option<[u16; 8]>) -> [u16; 8]
     ensures { result ≡ form_numbers form }
 {
-    match form {
-        Least::Form(a, b, c, d, e, f, g, h) => [a, b, c, d, e, f, g, h],
-        Least::Refused => [0; 8],
-    }
+    form.unwrap_or([0; 8])
 }
 
 fn cell(x: [u16; 8]) -> Finding
@@ -38,6 +34,7 @@ fn cell(x: [u16; 8]) -> Finding
     Finding::Cell(x[0], x[1], x[2], x[3], x[4], x[5], x[6], x[7])
 }
 
+// As `cell`, with another variant: a variant of eight numbers is no parameter that is plainer.
 fn turned(x: [u16; 8]) -> Finding
     ensures { result ≡ turned_by x }
 {
@@ -59,74 +56,42 @@ fn found_cell(kind: u16, tuple: &[u16; 8]) -> Finding
 
 // ---- a condition that fails
 
-// Where condition k is the first that fails.
-fn found_at(
-    coords: &[i64],
-    labels: &[u16],
-    offsets: &[u16],
-    entries: &[u16],
-    kind: u16,
-    tuple: &[u16],
-    k: u8,
-) -> Finding
-    requires close { Close coords.now × Indexed labels.now (length coords.now / 3) offsets.now entries.now }
-    requires in_bounds { (8 ≤ length tuple.now) × (1 ≤ k) }
-    ensures { (ps : List ℕ) → result ≡ finding_at (mesh_of coords.now labels.now ps)
-        (template_of kind) (tuple_of kind tuple.now) k }
+// Where this condition is the first that fails.
+fn found_at(mesh: &Mesh<'_>, kind: u16, tuple: &[u16], failing: Condition) -> Finding
+    requires { 8 ≤ length tuple.now }
+    ensures { result ≡ finding_at (mesh_of mesh.now.coords.now mesh.now.index.labels.now mesh.now.parts.now)
+        (template_of kind) (tuple_of kind tuple.now) (number failing) }
 {
-    let n = coords.len() / 3;
-    if k == 1 {
-        return Finding::BadCorner(first_corner(n, kind, tuple));
+    match failing {
+        Condition::Corners => Finding::BadCorner(first_corner(mesh.index.n, kind, tuple)),
+        Condition::Edges => Finding::NoEdge(first_edge(&mesh.index, kind, tuple)),
+        Condition::Faces => Finding::NoFace(first_face(&mesh.index, kind, tuple)),
+        Condition::Boxes => Finding::BadBox(first_box(mesh.coords, kind, tuple)),
+        Condition::Filled => open_at(mesh.index.labels, kind, tuple),
+        Condition::OnePart => Finding::TwoParts,
     }
-    if k == 2 {
-        return Finding::NoEdge(first_edge(labels, n, offsets, entries, kind, tuple));
-    }
-    if k == 3 {
-        return Finding::NoFace(first_face(labels, n, offsets, entries, kind, tuple));
-    }
-    if k == 4 {
-        return Finding::BadBox(first_box(coords, kind, tuple));
-    }
-    if k == 5 {
-        return open_at(labels, kind, tuple);
-    }
-    Finding::TwoParts
 }
 
 // ---- either
 
 // What is found of a tuple of a kind. Numbers past the kind's corners do not count.
-pub fn finding(
-    coords: &[i64],
-    labels: &[u16],
-    parts: &[u16],
-    offsets: &[u16],
-    entries: &[u16],
-    kind: u16,
-    tuple: &[u16; 8],
-) -> Finding
-    requires arrays { Arrays coords.now labels.now parts.now (length coords.now / 3) offsets.now entries.now }
-    requires kind_value { is_kind kind ≡ true }
-    ensures { result ≡ finding_of (mesh_of coords.now labels.now parts.now) kind tuple.now }
+pub fn finding(mesh: &Mesh<'_>, kind: u16, tuple: &[u16; 8]) -> Finding
+    requires { is_kind kind ≡ true }
+    ensures { result ≡ finding_of (mesh_of mesh.now.coords.now mesh.now.index.labels.now mesh.now.parts.now) kind tuple.now }
 {
-    let k = judge(coords, labels, parts, offsets, entries, kind, tuple);
-    if k == 0 {
-        return found_cell(kind, tuple);
+    match judge(mesh, kind, tuple) {
+        Ok(()) => found_cell(kind, tuple),
+        Err(failing) => found_at(mesh, kind, tuple, failing),
     }
-    found_at(coords, labels, offsets, entries, kind, tuple, k)
 }
 
 // ---- by numbers
 
-// The number of the refusal, and the entries as they were; or 0, and in the ten entries what was found.
-pub fn hand_out(found: Finding, answer: &mut [u16; 10]) -> u8
-    ensures number { result ≡ finding_number found }
-    ensures answer { answer.new ≡ entries_left found answer.old }
+// What was found, in the ten entries.
+pub fn hand_out(found: Finding, answer: &mut [u16; 10])
+    ensures { answer.new ≡ entries_of found }
 {
     match found {
-        Finding::Refused(number) => {
-            return number;
-        }
         Finding::Cell(a, b, c, d, e, f, g, h) => {
             *answer = [0, a, b, c, d, e, f, g, h, 0];
         }
@@ -155,5 +120,4 @@ pub fn hand_out(found: Finding, answer: &mut [u16; 10]) -> u8
             *answer = [6, 0, 0, 0, 0, 0, 0, 0, 0, 0];
         }
     }
-    0
 }

@@ -2,7 +2,7 @@
 -- Assumes nothing.
 use Prim.Native.Nat.{ℕ, ◌+◌, ◌≤◌}
 use mathlib.Core.Path.{◌≡◌, sym}
-use mathlib.Core.Bool.{Bool, true}
+use mathlib.Core.Bool.{true}
 use mathlib.Core.List.{List}
 use native.Mathlib.Omega.{arith}
 use native.Mathlib.Decide.{dec_lt}
@@ -11,7 +11,6 @@ use Rattle.templates.specs.Tables.{pyramid}
 use Rattle.cells.specs.Full.{full_list}
 use Rattle.record.specs.declared.Mark.{Mark}
 use Rattle.record.specs.Marks.{mark_corners, mark_of}
-use Rattle.filling.specs.declared.Tets.{Tets}
 use Rattle.portions.specs.Portions.{remains}
 use Rattle.portions.proofs.Loop.{next-remains}
 use Rattle.rule.specs.Rule.{tet_rule}
@@ -19,11 +18,14 @@ use Rattle.rule.proofs.Full.{lawful}
 use Rattle.rule.proofs.OneKind.{flat-pyramid}
 use Rattle.rule.proofs.Next.{later-all, later-own, pyramid-remains}
 use Rattle.pyramid_left.specs.between.Seen.{Seen}
-use Rattle.following.specs.between.Following.{Came}
+use Rattle.following.specs.between.Following.{Comes}
+use Rattle.following.specs.declared.NextCell.{NextCell}
+use Rattle.std.specs.Prelude.{Option, Some, None, is_some}
 
 module _ (m : Mesh) where
-  pub came_remains : {k j : List ℕ} {found : Bool} {f : Tets} → Came m k found j f → found ≡ remains tet_rule (full_list m) k
-  came_remains n = next-remains tet_rule (full_list m) (lawful m) n.next
+  pub came_remains : (k : List ℕ) (v : Option NextCell) → Comes m k v → is_some v ≡ remains tet_rule (full_list m) k
+  came_remains k None n = next-remains tet_rule (full_list m) (lawful m) n.1
+  came_remains k (Some s) n = next-remains tet_rule (full_list m) (lawful m) n.next
 
   -- by a pyramid that was seen
   pub seen_remains : {lo : ℕ} (k : Mark) → Seen m lo → 5 ≤ k.kind → (k.kind ≡ 5 → lo ≡ k.a + 1) → true ≡ remains tet_rule (full_list m) (mark_of k)

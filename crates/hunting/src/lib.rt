@@ -2,19 +2,17 @@
 // vertices can follow there is told by the faces to come. x is the row of a place in the tables of the levels.
 #![tactic(auto)]
 
-ghost use Rattle.std.specs.Prelude.{◌≡◌, true, false, ◌<◌, ◌≤◌, eqb, length};
-ghost use Rattle.space.specs.between.Working.{Close};
-ghost use Rattle.facet_hints.specs.between.Hints.{hint_places};
+ghost use Rattle.std.specs.Prelude.{◌≡◌, true, false, ◌<◌, ◌≤◌, eqb};
 ghost use Rattle.neighbours.specs.between.Reading.{Rowed};
-ghost use Rattle.reaching.specs.between.Reaching.{Lent, LeastAsked};
-ghost use Rattle.levels.specs.between.Levels.{look, levels};
+ghost use Rattle.reaching.specs.between.Reaching.{LeastAsked};
+ghost use Rattle.levels.specs.between.Levels.{look};
 ghost use Rattle.levels.specs.between.Passing.{Placed};
 ghost use Rattle.hunting.specs.between.Goes.{floor_of, face_edge_at, Follows, Passes, Goes, Stops};
 
 use aims::{Aim, HUB, aim_at};
+use candidates::Spot;
 use levels::{Place, look_of, passes_with, wide};
-use neighbours::neighbour_row;
-use reaching::{FaceEdge, beyond, fewer, lower};
+use reaching::{FaceEdge, Near, lower, shorter};
 use space::Vertex;
 
 // The corners of the kinds 8 and 6 are all above the first one.
@@ -27,16 +25,16 @@ fn floor_of(place: Place) -> usize
 
 // The edge at the entries i and i + 1 of the place's row. What may not link it and the next corner is o, p and the
 // place at entry i + 2.
-fn edge_at(tables: &[u8], place: Place, i: usize, o: Vertex, p: Vertex) -> FaceEdge
-    requires tables_value { tables.now ≡ levels }
-    requires placed { Placed place × (i < 4) }
-    ensures { result ≡ face_edge_at place.tuple place.row i o.0 p.0 }
+fn edge_at(spot: &Spot, i: usize, o: Vertex, p: Vertex) -> FaceEdge
+    requires { i < 4 }
+    ensures { result ≡ face_edge_at spot.now.place.tuple spot.now.place.row i o.0 p.0 }
 {
+    let place = spot.place;
     let t = place.tuple;
     let x = place.row;
-    let u = t[look_of(tables, x, i)];
-    let w = t[look_of(tables, x, i + 1)];
-    let q = t[look_of(tables, x, i + 2)];
+    let u = t[look_of(x, i)];
+    let w = t[look_of(x, i + 1)];
+    let q = t[look_of(x, i + 2)];
     FaceEdge {
         u: Vertex(u),
         w: Vertex(w),
@@ -48,140 +46,93 @@ fn edge_at(tables: &[u8], place: Place, i: usize, o: Vertex, p: Vertex) -> FaceE
 }
 
 // Whether the second pair of row x is the first again.
-fn is_twice(tables: &[u8], x: usize) -> bool
-    requires tables_value { tables.now ≡ levels }
-    requires x_bound { x < 19 }
+fn is_twice(x: usize) -> bool
+    requires { x < 19 }
 {
-    if look_of(tables, x, 0) == look_of(tables, x, 3) {
-        look_of(tables, x, 1) == look_of(tables, x, 4)
-    } else {
-        false
-    }
+    look_of(x, 0) == look_of(x, 3) && look_of(x, 1) == look_of(x, 4)
 }
 
 // The least vertex from lo on that can follow by the aim, or n; where both pairs are asked for, one that follows the
 // second alone may come before it.
-fn next_following(
-    tables: &[u8],
-    n: usize,
-    table: &[u16],
-    hints: &[u8],
-    place: Place,
-    aim: Aim,
-    lo: usize,
-) -> usize
-    requires tables_value { tables.now ≡ levels }
-    requires lent { Lent n table.now hints.now × (lo ≤ n) }
-    requires placed { Placed place }
-    ensures { LeastAsked (Follows n table.now hints.now place.tuple place.row aim.o.0 aim.p.0 aim.both) lo n result }
+fn next_following(spot: &Spot, near: &Near, aim: Aim, lo: usize) -> usize
+    requires { lo ≤ near.now.n }
+    ensures { LeastAsked (Follows near.now.n near.now.table.now near.now.hints.now spot.now.place.tuple spot.now.place.row aim.o.0 aim.p.0 aim.both) lo near.now.n result }
 {
     let o = aim.o;
     let p = aim.p;
-    let one = edge_at(tables, place, 0, o, p);
-    let v = beyond(n, table, hints, one, lo);
-    if aim.both {
-        if is_twice(tables, place.row) {
-            return v;
-        }
-        let two = edge_at(tables, place, 3, o, p);
-        return beyond(n, table, hints, two, v);
+    let one = edge_at(spot, 0, o, p);
+    let v = near.beyond(one, lo);
+    if aim.both && is_twice(spot.place.row) {
+        return v;
     }
-    let two = edge_at(tables, place, 3, o, p);
-    let r = beyond(n, table, hints, two, lo);
-    let b = if v < r { v } else { r };
-    lower(o, lo, lower(p, lo, b))
+    let two = edge_at(spot, 3, o, p);
+    if aim.both {
+        return near.beyond(two, v);
+    }
+    let r = near.beyond(two, lo);
+    lower(o, lo, lower(p, lo, v.min(r)))
 }
 
 // The tuple goes on with v at the place: where this is false, no cell does.
-fn goes_on(tables: &[u8], coords: &[i64], hints: &[u8], n: usize, place: Place, v: usize) -> bool
-    requires tables_value { tables.now ≡ levels }
-    requires close { Close coords.now × ((length hints.now ≡ hint_places) × (n ≤ 512)) }
-    requires placed { Placed place }
-    ensures { Stops (Passes coords.now hints.now place) n v result }
+fn goes_on(spot: &Spot, near: &Near, v: usize) -> bool
+    ensures { Stops (Passes spot.now.coords.now near.now.hints.now spot.now.place) near.now.n v result }
 {
-    if n <= v {
-        return false;
-    }
-    passes_with(tables, coords, hints, place, Vertex(v as u16))
+    v < near.n && passes_with(spot.coords, near.hints, spot.place, Vertex(v as u16))
 }
 
 // A vertex from lo on with which the tuple goes on at the place, or n. No cell is left out before it.
-pub fn hunt(
-    tables: &[u8],
-    coords: &[i64],
-    n: usize,
-    table: &[u16],
-    hints: &[u8],
-    place: Place,
-    lo: usize,
-) -> usize
-    requires tables_value { tables.now ≡ levels }
-    requires close { Close coords.now × Lent n table.now hints.now }
-    requires placed { Placed place }
-    ensures { LeastAsked (Goes coords.now n table.now hints.now place) lo n result }
+pub fn hunt(spot: &Spot, near: &Near, lo: usize) -> usize
+    ensures { LeastAsked (Goes spot.now.coords.now near.now.n near.now.table.now near.now.hints.now spot.now.place) lo near.now.n result }
 {
-    let aim = aim_at(n, table, hints, place);
-    if !aim.some {
-        return n;
-    }
+    let Some(aim) = aim_at(near, spot.place) else {
+        return near.n;
+    };
     let mut v = lo;
-    while v < n {
-        let r = next_following(tables, n, table, hints, place, aim, v);
-        if goes_on(tables, coords, hints, n, place, r) {
+    // A while: each round goes on after where the aim leads.
+    while v < near.n {
+        let r = next_following(spot, near, aim, v);
+        if goes_on(spot, near, r) {
             return r;
         }
         v = r + 1;
     }
-    n
+    near.n
 }
 
 // ---- where to look ahead
 
 // Row x has a pair of places, and the joined corners have many neighbours: the shorter row of theirs has this size.
-fn is_hub(tables: &[u8], x: usize, size: usize) -> bool
-    requires tables_value { tables.now ≡ levels }
-    requires x_bound { x < 19 }
+fn is_hub(x: usize, size: usize) -> bool
+    requires { x < 19 }
     ensures { result ≡ true → eqb (look x 0) (look x 1) ≡ false }
 {
-    if look_of(tables, x, 0) == look_of(tables, x, 1) {
-        return false;
-    }
-    HUB < size
+    look_of(x, 0) != look_of(x, 1) && HUB < size
 }
 
 // How many neighbours the one with fewer has of the pair at the entries i and i + 1 of the place's row.
-fn pair_size(tables: &[u8], n: usize, table: &[u16], place: Place, i: usize) -> usize
-    requires { (tables.now ≡ levels) × (Rowed n table.now × (Placed place × (i < 5))) }
+fn pair_size(n: usize, table: &[u16], place: Place, i: usize) -> usize
+    requires { Rowed n table.now × (Placed place × (i < 5)) }
 {
     let t = place.tuple;
     let x = place.row;
-    let u = t[look_of(tables, x, i)];
-    let w = t[look_of(tables, x, i + 1)];
-    let r = neighbour_row(n, table, Vertex(u));
-    let q = neighbour_row(n, table, Vertex(w));
-    let one = fewer(r, q);
-    one.size
+    let u = t[look_of(x, i)];
+    let w = t[look_of(x, i + 1)];
+    shorter(n, table, Vertex(u), Vertex(w)).size
 }
 
 // Whether looking ahead pays where a row of this size would be gone through: a pair of its row has few neighbours
 // beside it.
-fn is_far(tables: &[u8], n: usize, table: &[u16], place: Place, size: usize) -> bool
-    requires { (tables.now ≡ levels) × (Rowed n table.now × Placed place) }
+fn is_far(n: usize, table: &[u16], place: Place, size: usize) -> bool
+    requires { Rowed n table.now × Placed place }
 {
     let most = size / 4;
-    if pair_size(tables, n, table, place, 0) <= most {
-        return true;
-    }
-    pair_size(tables, n, table, place, 3) <= most
+    pair_size(n, table, place, 0) <= most || pair_size(n, table, place, 3) <= most
 }
 
 // Whether to look ahead at the place, where a row of this size would be gone through.
-pub fn looks_ahead(tables: &[u8], n: usize, table: &[u16], place: Place, size: usize) -> bool
-    requires { (tables.now ≡ levels) × (Rowed n table.now × Placed place) }
+pub fn looks_ahead(n: usize, table: &[u16], place: Place, size: usize) -> bool
+    requires { Rowed n table.now × Placed place }
     ensures { result ≡ true → eqb (look place.row 0) (look place.row 1) ≡ false }
 {
-    if is_hub(tables, place.row, size) {
-        return is_far(tables, n, table, place, size);
-    }
-    false
+    is_hub(place.row, size) && is_far(n, table, place, size)
 }

@@ -12,7 +12,7 @@ use Rattle.arrays.specs.Refusals.{refusals, refusal}
 use Rattle.arrays.proofs.Accepted.{accepted_gives}
 use Rattle.encoding.specs.File.{file_of}
 use Rattle.packing.specs.Packed.{packed}
-use Rattle.packing.specs.declared.Written.TheVariants.{Whole}
+use Rattle.std.specs.Prelude.{Ok}
 use Rattle.packing.proofs.Ways.{unless_none}
 use Rattle.round_trips.specs.Inverse.{AllBelow, AllSigned}
 use Rattle.round_trips.proofs.Laws.{inverse}
@@ -23,7 +23,7 @@ use Rattle.lists_undone.specs.Kept.{lists_said}
 use Rattle.lists_undone.proofs.Undoes.{texts}
 use Rattle.jobs_undone.specs.Jobs.{PackedBack, UnpackedBack, JobsUndone}
 
-text-whole : (f : List ℕ) → refusal f ≡ 0 → unpacked f ≡ Whole (length (file_text f))
+text-whole : (f : List ℕ) → refusal f ≡ 0 → unpacked f ≡ Ok (length (file_text f))
 unfolding unpacked refusal
 text-whole f e = sym (unless_none (refusals f) (length (file_text f)) (sym e))
 
@@ -68,14 +68,14 @@ module _ (f : List ℕ) (h : AllBelow 256 f) (e : refusal f ≡ 0) where
         file = rw (a, b, q) (inverse.written f h e);
       }
 
-module _ (cs : List ℤ) (ls ps : List ℕ) (room k : ℕ) (a : AllSigned cs) (b : AllBelow 65536 ls) (c : AllBelow 65536 ps) (e : packed cs ls ps room ≡ Whole k) where
+module _ (cs : List ℤ) (ls ps : List ℕ) (room k : ℕ) (a : AllSigned cs) (b : AllBelow 65536 ls) (c : AllBelow 65536 ps) (e : packed cs ls ps room ≡ Ok k) where
   pub unpacked-back : UnpackedBack cs ls ps
   unfolding file_text
   unpacked-back =
       let w = inverse.kept cs ls ps room k a b c e in
       let s = w.says in
       let t : text_of (coords_of (file_of cs ls ps)) (labels_of (file_of cs ls ps)) (parts_of (file_of cs ls ps)) ≡ text_of cs ls ps = rw (s.coordinates, s.numbers, s.parts) in
-      record { answer = text-whole (file_of cs ls ps) w.accepted ∙ ap (λ x. Whole (length x)) t; text = t }
+      record { answer = text-whole (file_of cs ls ps) w.accepted ∙ ap (λ x. Ok (length x)) t; text = t }
 
 pub jobs-undone : JobsUndone
 jobs-undone = record { packs = λ f room h e g. packed-back f h e room g; unpacks = unpacked-back }

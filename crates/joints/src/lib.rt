@@ -3,14 +3,13 @@
 #![tactic(auto)]
 
 ghost use Rattle.std.specs.Prelude.{◌≡◌, ◌/◌, ◌<◌, ◌≤◌, length};
-ghost use Rattle.joints.specs.between.Joints.{no_joint, lone_of, lesser_first, least_first, across_of, joint_of, pyramid_of};
+ghost use Rattle.joints.specs.between.Joints.{lone_of, lesser_first, least_first, across_of, joint_of, pyramid_of};
 
 use space::{Tet, Vertex, tet_has};
 
-// Two tetrahedra with a facet in common, where there is one: its vertices x, y, z, and u and w on either side.
+// Two tetrahedra with a facet in common: its vertices x, y, z, and u and w on either side.
 #[derive(Clone, Copy)]
 pub struct Joint {
-    pub some: bool,
     pub u: Vertex,
     pub w: Vertex,
     pub x: Vertex,
@@ -18,35 +17,21 @@ pub struct Joint {
     pub z: Vertex,
 }
 
-fn none() -> Joint
-    ensures { result ≡ no_joint }
-{
-    Joint {
-        some: false,
-        u: Vertex(0),
-        w: Vertex(0),
-        x: Vertex(0),
-        y: Vertex(0),
-        z: Vertex(0),
-    }
-}
-
-// The place of the vertex of e that m does not have; 4 where there is not just one.
+// The place of the vertex of e that m does not have; 4 where there is not just one. A number and no Option: the laws of
+// the only place, and the edit two_apart, are of the bound 4.
 fn lone(labels: &[u16], e: Tet, m: Tet) -> usize
     requires { (e.0 < length labels.now / 4) × (m.0 < length labels.now / 4) }
     ensures { (result ≡ lone_of labels.now e.0 m.0) × (result ≤ 4) }
 {
     let at = 4 * (e.0 as usize);
     let mut found = 4;
-    let mut i = 0;
-    while i < 4 {
+    for i in 0..4 {
         if !tet_has(labels, m, Vertex(labels[at + i])) {
             if found < 4 {
                 return 4;
             }
             found = i;
         }
-        i += 1;
     }
     found
 }
@@ -81,19 +66,10 @@ fn across(labels: &[u16], e: Tet, i: usize, w: Vertex) -> Joint
     let x = Vertex(labels[at + (i + 1) % 4]);
     let y = Vertex(labels[at + (i + 2) % 4]);
     let z = Vertex(labels[at + (i + 3) % 4]);
-    let some = true;
     if i % 2 == 0 {
-        return Joint {
-            some,
-            u,
-            w,
-            x,
-            y,
-            z,
-        };
+        return Joint { u, w, x, y, z };
     }
     Joint {
-        some,
         u,
         w,
         x,
@@ -103,19 +79,20 @@ fn across(labels: &[u16], e: Tet, i: usize, w: Vertex) -> Joint
 }
 
 // The pair of e and m, where they have a facet in common.
-pub fn joint_of(labels: &[u16], e: Tet, m: Tet) -> Joint
+pub fn joint_of(labels: &[u16], e: Tet, m: Tet) -> Option<Joint>
     requires { (e.0 < length labels.now / 4) × (m.0 < length labels.now / 4) }
     ensures { result ≡ joint_of labels.now e.0 m.0 }
 {
     let i = lone(labels, e, m);
     if i == 4 {
-        return none();
+        return None;
     }
     let j = lone(labels, m, e);
     if j == 4 {
-        return none();
+        return None;
     }
-    across(labels, e, i, Vertex(labels[4 * (m.0 as usize) + j]))
+    let w = Vertex(labels[4 * (m.0 as usize) + j]);
+    Some(across(labels, e, i, w))
 }
 
 // A pyramid of the pair: each of the facet's vertices may be the apex, z where k is 0, x where it is 1, and else y.

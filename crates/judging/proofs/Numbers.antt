@@ -2,11 +2,11 @@
 use mathlib.Core.Path.{◌≡◌, refl, sym, ◌∙◌, ap, subst}
 use mathlib.Core.Bool.{Bool, true, false, cond}
 use mathlib.Core.List.{List, [], ◌∷◌, ◌++◌}
-use Prim.Native.Nat.{ℕ, zero, suc, ◌+◌, ◌*◌, ◌/◌, ◌≤◌, ◌<◌}
+use Prim.Native.Nat.{ℕ, zero, suc, ◌+◌, ◌/◌, ◌≤◌, ◌<◌}
 use native.Mathlib.Numerals.{add-one}
 use native.Mathlib.Omega.{arith}
 use lib.ListN.{length, get_or, take, set, replicate, length-replicate, length-set}
-use lib.Seq.{length-take-le, take-suc-set}
+use lib.Seq.{take-suc-set}
 use Rattle.base.specs.Lists.{keep, from, up_to}
 use Rattle.tets_around.specs.between.Build.{Within}
 use Rattle.cells.specs.between.Rows.{owns, own_numbers}
@@ -61,8 +61,3 @@ module _ {b : ℕ → Bool} {i k : ℕ} {l : List ℕ} (g : Gathered b i l k) wh
 pub gathered_all : (ls : List ℕ) (qs : List (List ℕ)) (c : List ℕ) {i k : ℕ} {l : List ℕ} → Gathered (owns ls qs c) i l k → i ≡ length ls / 4 → take k l ≡ own_numbers ls qs c
 unfolding own_numbers
 gathered_all ls qs c g e = g.is ∙ ap (λ n. keep (owns ls qs c) (up_to n)) e
-
--- ---- room for 8 entries a tetrahedron
-
-pub room-is : (k : ℕ) (has list : List ℕ) → 8 * k ≤ length has → k ≤ length list → length (take (8 * k) has) ≡ 8 * length (take k list)
-room-is k has list g h = length-take-le (8 * k) has g ∙ ap (λ j. 8 * j) (sym (length-take-le k list h))

@@ -7,19 +7,12 @@ ghost use Rattle.layout.specs.Layout.{vertices, tets, length_right, counts_right
 
 // ---- little-endian numbers
 
-// A byte as a 16-bit number.
-fn wide(x: u8) -> u16
-    ensures { (result ≡ x) × (result < 256) }
-{
-    x as u16
-}
-
 // The 16-bit number at `at`.
 pub fn u16_at(s: &[u8], at: usize) -> u16
     requires { at + 2 ≤ length s.now }
     ensures { result ≡ u16_at s.now at }
 {
-    wide(s[at]) + 256 * wide(s[at + 1])
+    u16::from_le_bytes([s[at], s[at + 1]])
 }
 
 // The 32-bit number at `at`.
@@ -27,66 +20,48 @@ pub fn u32_at(s: &[u8], at: usize) -> u32
     requires { at + 4 ≤ length s.now }
     ensures { result ≡ u32_at s.now at }
 {
-    let low = u16_at(s, at);
-    let high = u16_at(s, at + 2);
-    low as u32 + 65536 * (high as u32)
+    u32::from_le_bytes([s[at], s[at + 1], s[at + 2], s[at + 3]])
 }
 
 // The signed 32-bit number at `at`.
+#[tactic(auto, unfolding(crate::specs::Bytes::i32_at, crate::specs::Bytes::signed32))]
 pub fn i32_at(s: &[u8], at: usize) -> i64
     requires { at + 4 ≤ length s.now }
     ensures { result ≡ i32_at s.now at }
 {
-    let n = u32_at(s, at);
-    if n < 2147483648 {
-        n as i64
-    } else {
-        n as i64 - 4294967296
-    }
+    i64::from(u32_at(s, at).cast_signed())
 }
 
 // ---- the header
 
 // Not refusal 1.
+#[tactic(auto, unfolding(crate::specs::Layout::length_right))]
 pub fn length_right(file: &[u8]) -> bool
     ensures { result ≡ length_right file.now }
 {
     let length = file.len();
-    if length < 24 {
-        return false;
-    }
-    if 26648 < length {
-        return false;
-    }
-    u32_at(file, 16) as usize == length
+    24 <= length && length <= 26648 && u32_at(file, 16) as usize == length
 }
 
 // Not refusal 2.
+#[tactic(auto, unfolding(crate::specs::Layout::counts_right))]
 pub fn counts_right(file: &[u8]) -> bool
     requires { 24 ≤ length file.now }
     ensures { result ≡ counts_right file.now }
 {
-    if 512 < u32_at(file, 0) {
-        return false;
-    }
-    u32_at(file, 8) <= 2048
+    u32_at(file, 0) <= 512 && u32_at(file, 8) <= 2048
 }
 
 // Not refusal 3.
+#[tactic(auto, unfolding(crate::specs::Layout::layout_right))]
 pub fn layout_right(file: &[u8]) -> bool
     requires { (24 ≤ length file.now) × ((vertices file.now ≤ 512) × (tets file.now ≤ 2048)) }
     ensures { result ≡ layout_right file.now }
 {
     let n = u32_at(file, 0);
     let t = u32_at(file, 8);
-    if u32_at(file, 4) != 24 {
-        return false;
-    }
-    if u32_at(file, 12) != 24 + 12 * n {
-        return false;
-    }
-    if u32_at(file, 16) != 24 + 12 * n + 10 * t {
-        return false;
-    }
-    u32_at(file, 20) == 0
+    u32_at(file, 4) == 24
+        && u32_at(file, 12) == 24 + 12 * n
+        && u32_at(file, 16) == 24 + 12 * n + 10 * t
+        && u32_at(file, 20) == 0
 }

@@ -2,16 +2,22 @@
 -- Assumes nothing.
 use Prim.Native.Nat.{ℕ, zero, suc, ◌≤◌}
 use mathlib.Core.Path.{◌≡◌, refl, sym, ◌∙◌, ap}
-use mathlib.Core.Bool.{Bool, true, false}
-use mathlib.Core.List.{List, ◌∷◌, map}
+use mathlib.Core.Bool.{Bool, true, false, ◌&&◌}
+use mathlib.Core.List.{List, [], ◌∷◌, map}
 use native.Mathlib.Omega.{arith}
 use lib.Dec.{ltb}
 use lib.ListN.{length, get_or, take}
+use Rattle.std.specs.List.{list_all}
 use Rattle.base.specs.Lists.{all, from, up_to, is_in}
 use Rattle.base.proofs.Loop.{listed}
 use Rattle.portions.specs.between.Tuples.{front}
 use Rattle.levels.specs.between.Levels.{lesser}
 use Rattle.levels.specs.between.Passing.{is_new_above}
+
+-- what a chain answers, in the words of these contracts
+pub all-listed : (p : ℕ → Bool) (xs : List ℕ) → list_all p xs ≡ all p xs
+all-listed p [] = refl
+all-listed p (x ∷ xs) = ap (λ b. p x && b) (all-listed p xs)
 
 pub take-run : (f : ℕ → ℕ) (i k d : ℕ) → d ≤ k → take d (map f (from i k)) ≡ map f (from i d)
 take-run f i k zero h = refl

@@ -1,7 +1,6 @@
 // The levels of the search: at each place of each kind, what a tuple must pass there for a cell to go on,
 // as rows of constant tables.
-// A tuple is kept in search order; x is the row of a place, and the tables are lent as one slice,
-// since each mention of a constant table makes it anew.
+// A tuple is kept in search order; x is the row of a place, and the tables are one static.
 #![tactic(auto)]
 
 mod rows;
@@ -10,12 +9,12 @@ ghost use Rattle.std.specs.Prelude.{◌≡◌, ◌+◌, ◌<◌, ◌≤◌, ltb,
 ghost use Rattle.base.specs.Lists.{all, up_to};
 ghost use Rattle.space.specs.between.Working.{Close};
 ghost use Rattle.cells.specs.between.Rows.{threes, fours, sound_by};
-ghost use Rattle.facet_hints.specs.between.Hints.{hint_places, faces_hinted};
+ghost use Rattle.facet_hints.specs.between.Hints.{faces_hinted};
 ghost use Rattle.levels.specs.between.Levels.{lesser, joined, also, third, look, part, level_triangles, level_quads, level_triples, levels, Cut};
 ghost use Rattle.levels.specs.between.Passing.{is_new_above, passes_level, Placed, passes_with};
 
 use cells::is_sound;
-use facet_hints::faces_hinted;
+use facet_hints::{Hints, faces_hinted};
 use rows::LEVELS;
 use space::Vertex;
 use templates::is_in;
@@ -45,66 +44,54 @@ const THIRD: usize = 247;
 
 const AHEAD: usize = 266;
 
-// The tables, once for a portion.
-pub fn tables() -> [u8; 380]
-    ensures { result ≡ levels }
-{
-    LEVELS
-}
-
 pub fn wide(x: u16) -> usize
     ensures { (result ≡ x) × (result < 65536) }
 {
-    x as usize
-}
-
-fn small(x: u8) -> usize
-    ensures { result ≡ x }
-{
-    x as usize
+    usize::from(x)
 }
 
 fn entry_of(table: &[u8], i: usize) -> usize
     requires { i < length table.now }
     ensures { result ≡ get_or table.now i 0 }
 {
-    small(table[i])
+    usize::from(table[i])
 }
 
-pub fn lesser_of(tables: &[u8], x: usize) -> usize
-    requires { (tables.now ≡ levels) × (x < 19) }
+// The four stay apart, one line each: each names a table of its own and how small its entries are (edit `joined`).
+pub fn lesser_of(x: usize) -> usize
+    requires { x < 19 }
     ensures { (result ≡ get_or lesser x 0) × (result ≤ 2) }
 {
-    entry_of(tables, LESSER + x)
+    usize::from(LEVELS[LESSER + x])
 }
 
-pub fn joined_of(tables: &[u8], x: usize) -> usize
-    requires { (tables.now ≡ levels) × (x < 19) }
+pub fn joined_of(x: usize) -> usize
+    requires { x < 19 }
     ensures { (result ≡ get_or joined x 0) × (result < 8) }
 {
-    entry_of(tables, JOINED + x)
+    usize::from(LEVELS[JOINED + x])
 }
 
-pub fn also_of(tables: &[u8], x: usize) -> usize
-    requires { (tables.now ≡ levels) × (x < 19) }
+pub fn also_of(x: usize) -> usize
+    requires { x < 19 }
     ensures { (result ≡ get_or also x 0) × (result < 8) }
 {
-    entry_of(tables, ALSO + x)
+    usize::from(LEVELS[ALSO + x])
 }
 
-pub fn third_of(tables: &[u8], x: usize) -> usize
-    requires { (tables.now ≡ levels) × (x < 19) }
+pub fn third_of(x: usize) -> usize
+    requires { x < 19 }
     ensures { (result ≡ get_or third x 0) × (result < 8) }
 {
-    entry_of(tables, THIRD + x)
+    usize::from(LEVELS[THIRD + x])
 }
 
 // Entry i of the look-ahead's row x.
-pub fn look_of(tables: &[u8], x: usize, i: usize) -> usize
-    requires { (tables.now ≡ levels) × ((x < 19) × (i < 6)) }
+pub fn look_of(x: usize, i: usize) -> usize
+    requires { (x < 19) × (i < 6) }
     ensures { (result ≡ look x i) × (result < 8) }
 {
-    entry_of(tables, AHEAD + (6 * x + i))
+    usize::from(LEVELS[AHEAD + (6 * x + i)])
 }
 
 // ---- the test of a level
@@ -114,28 +101,16 @@ pub fn is_above(s: &[u16], count: usize, v: Vertex) -> bool
     requires { count ≤ length s.now }
     ensures { result ≡ all (λ k. ltb (get_or s.now k 0) v.0) (up_to count) }
 {
-    let y = v.0;
-    let mut k = 0;
-    while k < count {
-        if y <= s[k] {
-            return false;
-        }
-        k += 1;
-    }
-    true
+    s[..count].iter().all(|w| *w < v.0)
 }
 
 // The vertex at place d is new, and above those that it must be above.
-fn is_new_above(tables: &[u8], s: &[u16], x: usize, d: usize) -> bool
-    requires tables_value { tables.now ≡ levels }
+fn is_new_above(s: &[u16], x: usize, d: usize) -> bool
     requires x_bound { (x < 19) × ((d < length s.now) × (2 ≤ length s.now)) }
     ensures { result ≡ is_new_above x d s.now }
 {
     let v = s[d];
-    if is_in(v, &s[..d]) {
-        return false;
-    }
-    is_above(s, lesser_of(tables, x), Vertex(v))
+    !is_in(v, &s[..d]) && is_above(s, lesser_of(x), Vertex(v))
 }
 
 // The boxes of a part of the corner triples are above 0.
@@ -150,14 +125,13 @@ fn sound_part(coords: &[i64], s: &[u16], rows: &[u8], starts: &[u8], x: usize) -
 
 // The faces of a part of the tables may be faces of the mesh.
 fn faces_part(
-    hints: &[u8],
+    hints: &Hints,
     s: &[u16],
     rows: &[u8],
     triangles: &[u8],
     quads: &[u8],
     x: usize,
 ) -> bool
-    requires hints_len { length hints.now ≡ hint_places }
     requires cut { Cut rows.now triangles.now x × Cut rows.now quads.now x }
     ensures { result ≡ faces_hinted hints.now s.now
         (threes (part rows.now triangles.now x)) (fours (part rows.now quads.now x)) }
@@ -169,52 +143,45 @@ fn faces_part(
     faces_hinted(hints, s, &rows[from..end], &rows[low..high])
 }
 
-fn boxes_at(tables: &[u8], coords: &[i64], s: &[u16], x: usize) -> bool
-    requires { (tables.now ≡ levels) × (Close coords.now × (x < 19)) }
+fn boxes_at(coords: &[i64], s: &[u16], x: usize) -> bool
+    requires { Close coords.now × (x < 19) }
     ensures { result ≡ sound_by coords.now s.now (level_triples x) }
 {
-    sound_part(coords, s, tables, &tables[TRIPLES_AT..LESSER], x)
+    sound_part(coords, s, &LEVELS, &LEVELS[TRIPLES_AT..LESSER], x)
 }
 
-fn faces_at(tables: &[u8], hints: &[u8], s: &[u16], x: usize) -> bool
-    requires { (tables.now ≡ levels) × ((length hints.now ≡ hint_places) × (x < 19)) }
+fn faces_at(hints: &Hints, s: &[u16], x: usize) -> bool
+    requires { x < 19 }
     ensures { result ≡ faces_hinted hints.now s.now (level_triangles x) (level_quads x) }
 {
     faces_part(
         hints,
         s,
-        tables,
-        &tables[TRIANGLES_AT..QUADS_AT],
-        &tables[QUADS_AT..TRIPLES_AT],
+        &LEVELS,
+        &LEVELS[TRIANGLES_AT..QUADS_AT],
+        &LEVELS[QUADS_AT..TRIPLES_AT],
         x,
     )
 }
 
 // The tuple passes the test of the level of place d: the cheap parts first.
-fn passes(tables: &[u8], coords: &[i64], hints: &[u8], s: &[u16], x: usize, d: usize) -> bool
-    requires tables_value { tables.now ≡ levels }
-    requires close { Close coords.now × (length hints.now ≡ hint_places) }
+#[tactic(auto, unfolding(crate::specs::between::Passing::passes_level))]
+fn passes(coords: &[i64], hints: &Hints, s: &[u16], x: usize, d: usize) -> bool
+    requires close { Close coords.now }
     requires x_bound { (x < 19) × ((d < length s.now) × (2 ≤ length s.now)) }
     ensures { result ≡ passes_level coords.now hints.now x d s.now }
 {
-    if !is_new_above(tables, s, x, d) {
-        return false;
-    }
-    if !faces_at(tables, hints, s, x) {
-        return false;
-    }
-    boxes_at(tables, coords, s, x)
+    is_new_above(s, x, d) && faces_at(hints, s, x) && boxes_at(coords, s, x)
 }
 
 // The tuple passes with v at the place.
-pub fn passes_with(tables: &[u8], coords: &[i64], hints: &[u8], p: Place, v: Vertex) -> bool
-    requires tables_value { tables.now ≡ levels }
-    requires close { Close coords.now × (length hints.now ≡ hint_places) }
+pub fn passes_with(coords: &[i64], hints: &Hints, p: Place, v: Vertex) -> bool
+    requires close { Close coords.now }
     requires placed { Placed p }
     ensures { result ≡ passes_with coords.now hints.now p v.0 }
 {
     let mut s = p.tuple;
     let d = p.at;
     s[d] = v.0;
-    passes(tables, coords, hints, &s, p.row, d)
+    passes(coords, hints, &s, p.row, d)
 }

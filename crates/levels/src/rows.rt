@@ -1,5 +1,5 @@
 // The tables of the levels, one after the other: what each part says, the definition `levels` tells.
-pub const LEVELS: [u8; 380] = [
+pub static LEVELS: [u8; 380] = [
     // triangles
     0, 1, 2, 3, 4, 5, 0, 1, 4, 1, 2, 4, 2, 3, 4, 0, 3, 4,
     // quadrilaterals

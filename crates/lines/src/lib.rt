@@ -1,7 +1,7 @@
 // The lines of a listing as text, put into a lent slice.
 #![tactic(auto)]
 
-ghost use Rattle.std.specs.Prelude.{◌≡◌, ◌+◌, ◌*◌, ◌≤◌, min, length, take};
+ghost use Rattle.std.specs.Prelude.{◌≡◌, ◌+◌, ◌*◌, ◌≤◌, length, take};
 ghost use Rattle.base.specs.Laid.{Laid};
 ghost use Rattle.record.specs.Entries.{record_size};
 ghost use Rattle.lines.specs.Text.{IsDigitCount, last_digits, decimal, spaced, numbers, corners_text, tets_text, cell_line, corners_most, tets_most, line_most};
@@ -14,25 +14,19 @@ pub fn put_text(out: &mut [u8], from: usize, text: &[u8]) -> usize
     ensures next { result ≡ from + length text.now }
     ensures text { Laid from text.now out.old out.new }
 {
-    let mut i = 0;
-    while i < text.len() {
-        out[from + i] = text[i];
-        i += 1;
-    }
-    from + i
+    let end = from + text.len();
+    out[from..end].copy_from_slice(text);
+    end
 }
 
 // How many decimal digits a number has.
 fn digit_count(x: u64) -> usize
     ensures { IsDigitCount x result }
 {
-    let mut k = 1;
-    let mut rest = x / 10;
-    while rest > 0 {
-        rest /= 10;
-        k += 1;
+    match x.checked_ilog10() {
+        Some(k) => k as usize + 1,
+        None => 1,
     }
-    k
 }
 
 // Puts the last k digits of a number at the start of a room.
@@ -40,11 +34,9 @@ fn put_digits(out: &mut [u8], k: usize, x: u64)
     requires { k ≤ length out.old }
     ensures { take k out.new ≡ last_digits k x }
 {
-    let mut i = k;
     let mut rest = x;
-    while i > 0 {
-        i -= 1;
-        out[i] = 48 + (rest % 10) as u8;
+    for i in (0..k).rev() {
+        out[i] = b'0' + (rest % 10) as u8;
         rest /= 10;
     }
 }
@@ -68,10 +60,8 @@ pub fn put_numbers(out: &mut [u8], from: usize, list: &[u16]) -> usize
     ensures text { Laid from (numbers list.now) out.old out.new }
 {
     let mut at = from;
-    let mut i = 0;
-    while i < list.len() {
-        at = put_number(out, at, list[i] as u64);
-        i += 1;
+    for x in list {
+        at = put_number(out, at, u64::from(*x));
     }
     at
 }
@@ -86,14 +76,6 @@ pub fn put_number(out: &mut [u8], from: usize, x: u64) -> usize
     put_decimal(out, at, x)
 }
 
-// An entry of a record as a count, and no more than its places.
-fn at_most(x: u16, most: usize) -> usize
-    ensures { (result ≡ min x most) × (result ≤ most) }
-{
-    let n = x as usize;
-    if n < most { n } else { most }
-}
-
 // Puts a record's kind and corners.
 fn put_corners(out: &mut [u8], from: usize, cell: &[u16]) -> usize
     requires { (from + corners_most ≤ length out.old) × (length cell.now ≡ record_size) }
@@ -101,8 +83,8 @@ fn put_corners(out: &mut [u8], from: usize, cell: &[u16]) -> usize
     ensures text { Laid from (corners_text cell.now) out.old out.new }
 {
     let kind = cell[0];
-    let end = 1 + at_most(kind, 8);
-    let at = put_decimal(out, from, kind as u64);
+    let end = 1 + usize::from(kind).min(8);
+    let at = put_decimal(out, from, u64::from(kind));
     put_numbers(out, at, &cell[1..end])
 }
 
@@ -112,7 +94,7 @@ fn put_tets(out: &mut [u8], from: usize, cell: &[u16]) -> usize
     ensures next { result ≡ from + length (tets_text cell.now) }
     ensures text { Laid from (tets_text cell.now) out.old out.new }
 {
-    let end = TETS_AT + at_most(cell[COUNT_AT], TET_PLACES);
+    let end = TETS_AT + usize::from(cell[COUNT_AT]).min(TET_PLACES);
     let at = put_text(out, from, b" :");
     put_numbers(out, at, &cell[TETS_AT..end])
 }

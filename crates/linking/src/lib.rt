@@ -4,27 +4,26 @@
 ghost use Rattle.std.specs.Prelude.{◌≡◌, ◌⊎◌, true, length};
 ghost use Rattle.facet_hints.specs.between.Hints.{hinted};
 ghost use Rattle.neighbours.specs.between.Reading.{Rowed};
-ghost use Rattle.reaching.specs.between.Reaching.{Lent, Links, ByRow};
+ghost use Rattle.reaching.specs.between.Reaching.{Links, ByRow};
 ghost use Rattle.linking.specs.between.Met.{AllMet, Adds, LinkAt};
 
 use facet_hints::is_hinted;
 use neighbours::neighbour_row;
-use reaching::{FaceEdge, MANY, may_link, shorter};
+use reaching::{FaceEdge, MANY, Near, may_link, shorter};
 use space::Vertex;
 
-// The linking vertices that were met: whether there are some, whether it is a single one, vertex, or a pair, vertex and
-// other. Of more, vertex is one with the most neighbours, or none, which is 65535. The choice is a matter of speed
-// alone.
+// The linking vertices that were met: none, a single one, a pair, or more. Of more there are two of them, the first one with
+// the most neighbours; both are 65535, no vertex, where too many were to be looked through, as the record Aims has it. The
+// choice is a matter of speed alone.
 #[derive(Clone, Copy)]
-pub struct Linking {
-    pub some: bool,
-    pub single: bool,
-    pub pair: bool,
-    pub vertex: Vertex,
-    pub other: Vertex,
+pub enum Linking {
+    None,
+    One(Vertex),
+    Pair(Vertex, Vertex),
+    More(Vertex, Vertex),
 }
 
-// Of two vertices, one with the most neighbours.
+// Of two vertices, one with the most neighbours. It takes the table alone, as it asks for no hints.
 pub fn fuller(n: usize, table: &[u16], x: Vertex, y: Vertex) -> Vertex
     requires { Rowed n table.now }
     ensures { (result ≡ x) ⊎ (result ≡ y) }
@@ -35,130 +34,75 @@ pub fn fuller(n: usize, table: &[u16], x: Vertex, y: Vertex) -> Vertex
 }
 
 // A linking vertex more.
-fn one_more(n: usize, table: &[u16], x: Vertex, s: Linking) -> Linking
-    requires { Rowed n table.now }
+fn one_more(near: &Near, x: Vertex, s: Linking) -> Linking
     ensures { Adds (λ y. y ≡ x.0) s result }
 {
-    if !s.some {
-        return Linking {
-            some: true,
-            single: true,
-            pair: false,
-            vertex: x,
-            other: x,
-        };
-    }
-    let y = s.vertex;
-    if s.single {
-        return Linking {
-            some: true,
-            single: false,
-            pair: true,
-            vertex: y,
-            other: x,
-        };
-    }
-    let o = s.other;
-    let z = fuller(n, table, y, o);
-    Linking {
-        some: true,
-        single: false,
-        pair: false,
-        vertex: fuller(n, table, x, z),
-        other: x,
+    match s {
+        Linking::None => Linking::One(x),
+        Linking::One(y) => Linking::Pair(y, x),
+        Linking::Pair(y, o) | Linking::More(y, o) => {
+            let z = fuller(near.n, near.table, y, o);
+            Linking::More(fuller(near.n, near.table, x, z), x)
+        }
     }
 }
 
 // The vertex x more, where it may link w and v at u, where the edge goes from w to u.
-fn sole_at(
-    n: usize,
-    table: &[u16],
-    hints: &[u8],
-    e: FaceEdge,
-    v: Vertex,
-    x: Vertex,
-    s: Linking,
-) -> Linking
-    requires { Lent n table.now hints.now }
-    ensures { Adds (LinkAt n table.now hints.now e v.0 x.0) s result }
+fn sole_at(near: &Near, e: FaceEdge, v: Vertex, x: Vertex, s: Linking) -> Linking
+    ensures { Adds (LinkAt near.now.n near.now.table.now near.now.hints.now e v.0 x.0) s result }
 {
-    if !may_link(e, x) {
-        return s;
-    }
     let u = e.u;
     let w = e.w;
-    if !is_hinted(hints, u, x, v) {
-        return s;
+    if may_link(e, x) && is_hinted(near.hints, u, x, v) && is_hinted(near.hints, u, w, x) {
+        one_more(near, x, s)
+    } else {
+        s
     }
-    if is_hinted(hints, u, w, x) {
-        return one_more(n, table, x, s);
-    }
-    s
 }
 
 // The same for each entry x of a row.
-fn sole_row(n: usize, table: &[u16], hints: &[u8], row: &[u16], e: FaceEdge, v: Vertex) -> Linking
-    requires { Lent n table.now hints.now }
-    ensures { AllMet (ByRow (LinkAt n table.now hints.now e v.0) row.now (length row.now)) result }
+fn sole_row(near: &Near, row: &[u16], e: FaceEdge, v: Vertex) -> Linking
+    ensures { AllMet (ByRow (LinkAt near.now.n near.now.table.now near.now.hints.now e v.0) row.now (length row.now)) result }
 {
-    let mut s = Linking {
-        some: false,
-        single: false,
-        pair: false,
-        vertex: Vertex(65535),
-        other: Vertex(65535),
-    };
-    let mut k = 0;
-    while k < row.len() {
-        s = sole_at(n, table, hints, e, v, Vertex(row[k]), s);
-        k += 1;
+    let mut s = Linking::None;
+    for &x in row {
+        s = sole_at(near, e, v, Vertex(x), s);
     }
     s
 }
 
 // The vertices that link w and v at u. None of them is left out; one that the hints merely do not exclude may be
-// counted too. Where there are many to look through, it is said that there may be several, and vertex is no vertex.
-pub fn sole(n: usize, table: &[u16], hints: &[u8], e: FaceEdge, v: Vertex) -> Linking
-    requires { Lent n table.now hints.now }
-    ensures { AllMet (λ x. Links n table.now hints.now e x v.0) result }
+// counted too. Where there are many to look through, it is said that there may be several, and they are no vertices.
+pub fn sole(near: &Near, e: FaceEdge, v: Vertex) -> Linking
+    ensures { AllMet (λ x. Links near.now.n near.now.table.now near.now.hints.now e x v.0) result }
 {
     let u = e.u;
     let w = e.w;
-    let row = shorter(n, table, u, w);
+    let row = shorter(near.n, near.table, u, w);
     if MANY < row.size {
-        return Linking {
-            some: true,
-            single: false,
-            pair: false,
-            vertex: Vertex(65535),
-            other: Vertex(65535),
-        };
+        return Linking::More(Vertex(65535), Vertex(65535));
     }
     let from = row.from;
     let end = from + row.size;
-    sole_row(n, table, hints, &table[from..end], e, v)
+    sole_row(near, &near.table[from..end], e, v)
 }
 
 // Of the vertices that may make a facet with u and w, one with the most neighbours; where there is none or both have
 // many, no vertex.
-pub fn fullest(n: usize, table: &[u16], hints: &[u8], u: Vertex, w: Vertex) -> Vertex
-    requires { Lent n table.now hints.now }
-    ensures { (result.0 ≡ 65535) ⊎ (hinted hints.now u.0 w.0 result.0 ≡ true) }
+pub fn fullest(near: &Near, u: Vertex, w: Vertex) -> Vertex
+    ensures { (result.0 ≡ 65535) ⊎ (hinted near.now.hints.now u.0 w.0 result.0 ≡ true) }
 {
-    let row = shorter(n, table, u, w);
+    let mut p = Vertex(65535);
+    let row = shorter(near.n, near.table, u, w);
     if MANY < row.size {
-        return Vertex(65535);
+        return p;
     }
     let from = row.from;
     let end = from + row.size;
-    let part = &table[from..end];
-    let mut p = Vertex(65535);
-    let mut k = 0;
-    while k < part.len() {
-        if is_hinted(hints, u, w, Vertex(part[k])) {
-            p = fuller(n, table, Vertex(part[k]), p);
+    for &x in &near.table[from..end] {
+        if is_hinted(near.hints, u, w, Vertex(x)) {
+            p = fuller(near.n, near.table, Vertex(x), p);
         }
-        k += 1;
     }
     p
 }

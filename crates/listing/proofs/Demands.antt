@@ -25,9 +25,8 @@ use Rattle.rule.specs.Rule.{tet_rule}
 use Rattle.rule.proofs.Full.{after_above, lawful, telling}
 use Rattle.record.specs.declared.Mark.{Mark}
 use Rattle.record.specs.Marks.{mark_of, mark_corners}
-use Rattle.records.specs.declared.Answer.{Answer}
-use Rattle.records.specs.declared.Answer.TheVariants.{Refused, Given}
-use Rattle.records.specs.Marks.{says, answer_number}
+use Rattle.std.specs.Prelude.{Ok, Err}
+use Rattle.records.specs.Marks.{Answer, gave, says, answer_number}
 use Rattle.portioning.specs.Portion.{barred, portion_by, Promised}
 use Rattle.listing.specs.Demands.{Demand2, Demand3, Called, none, last, more}
 use Rattle.portioning.proofs.Promised.{bars_none}
@@ -49,7 +48,7 @@ module _ {rs : List Refusal} {m : Mesh} {n : ℕ} {k table room table' left : Li
         stored = rw (s ∙ sym (lay-front w room)) o;
       }
 
-pub given-outcome : {rs : List Refusal} {m : Mesh} {n : ℕ} {k table room table' left : List ℕ} {c : ℕ} {b : Bool} {k' : Mark} → Promised rs m n k table room (Given c b k') table' left → Outcome tet_rule (full_list m) k room (given c b (mark_of k')) left
+pub given-outcome : {rs : List Refusal} {m : Mesh} {n : ℕ} {k table room table' left : List ℕ} {c : ℕ} {b : Bool} {k' : Mark} → Promised rs m n k table room (gave c b k') table' left → Outcome tet_rule (full_list m) k room (given c b (mark_of k')) left
 unfolding portion_by
 given-outcome {rs} {m} {n} {k} {table} {room} {table'} {left} {c} {b} {k'} p = elim (dec_lt 0 (barred rs m n (length table) (length room))) [
   | yes h ↦
@@ -74,8 +73,8 @@ module _ (f : List ℕ) where
   all_after s e = after_above (decoded f) s.kind (mark_corners s) (omega arith)
 
   answered : (a : Answer) {k room left : List ℕ} → Outcome tet_rule (full_list (decoded f)) k room (says a) left → tet_rule.size ≤ length room → all tet_rule.fits (take (length room / tet_rule.size) (after tet_rule (full_list (decoded f)) k)) ≡ true → answer_number a ≡ 0
-  answered (Refused j v) o h g = absurd (refusal-fails tet_rule (full_list (decoded f)) (lawful (decoded f)) o h g)
-  answered (Given c b k') o h g = refl
+  answered (Err x) o h g = absurd (refusal-fails tet_rule (full_list (decoded f)) (lawful (decoded f)) o h g)
+  answered (Ok x) o h g = refl
 
   pub demand3 : Demand3 f
   demand3 = record {

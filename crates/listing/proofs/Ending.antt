@@ -26,7 +26,7 @@ use Rattle.record.specs.Entries.{corner_places}
 use Rattle.record.proofs.Entries.{pad-length}
 use Rattle.record.specs.declared.Mark.{Mark}
 use Rattle.record.specs.Marks.{mark_of, cell_mark}
-use Rattle.records.specs.declared.Answer.TheVariants.{Given}
+use Rattle.records.specs.Marks.{gave}
 use Rattle.records.specs.between.Written.{Written}
 use Rattle.portioning.specs.Portion.{Portioned}
 use Rattle.portioning.proofs.Promised.{bars_none, promised_written}
@@ -76,9 +76,9 @@ module _ (m : Mesh) where
         nine false = last-nine k cells inside e
 
     -- so an answer of the code says the same
-    said_so : (q r : Mark) → mark_of q ≡ k → mark_of r ≡ j → Written m (mark_of q) room (Given n over r) left
+    said_so : (q r : Mark) → mark_of q ≡ k → mark_of r ≡ j → Written m (mark_of q) room (gave n over r) left
     unfolding cells_in
-    said_so q r d e = subst (λ x. Written m x room (Given n over r) left) (sym d) (record {
+    said_so q r d e = subst (λ x. Written m x room (gave n over r) left) (sym d) (record {
       outcome = subst (λ x. Outcome tet_rule (full_list m) k room (given n over x) left) (sym e) c.outcome;
       counted =
           let s = call tet_rule (full_list m) (lawful m) k room c in
@@ -94,7 +94,7 @@ module _ (f : List ℕ) (z : refusal f ≡ 0) where
     next : (r : Mark) × (mark_of r ≡ j)
     next = mark_of_nine j (hands_nine (decoded f) c (ap length (sym e)))
 
-    answered : (table' : List ℕ) × Portioned f (mark_of q) table room (Given n over next.0) table' left
+    answered : (table' : List ℕ) × Portioned f (mark_of q) table room (gave n over next.0) table' left
     answered = (
       _,
       promised_written (refusals f) (decoded f) (vertices f) (mark_of q) table room

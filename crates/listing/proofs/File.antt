@@ -11,8 +11,10 @@ use Rattle.arrays.specs.Refusals.{refusals, refusal}
 use Rattle.arrays.proofs.Accepted.{accepted_gives}
 use Rattle.neighbours.specs.Table.{table_of}
 use Rattle.neighbours.proofs.Whole.{enough}
-use Rattle.records.specs.declared.Answer.{Answer}
-use Rattle.records.specs.declared.Answer.TheVariants.{Refused}
+use Rattle.refusals.specs.declared.Refusal.{Refusal}
+use Rattle.refusals.specs.Named.{number_of}
+use Rattle.refusals.proofs.Named.{number_above}
+use Rattle.records.specs.Marks.{Answer, barred_by}
 use Rattle.portioning.specs.Portion.{Promised, Portioned}
 use Rattle.portioning.proofs.Promised.{bars_file, promised_refused, promised_past}
 
@@ -22,10 +24,10 @@ module _ (f : List ℕ) where
   accepted-passed e = passed (refusals f) refl e
 
   -- refusals 1 to 9
-  pub refused-file : (k table room : List ℕ) {y : ℕ} → refusal f ≡ y → 0 < y → Portioned f k table room (Refused y 0) table room
+  pub refused-file : (k table room : List ℕ) {r : Refusal} → refusal f ≡ number_of r → Portioned f k table room (barred_by r 0) table room
   unfolding refusal
-  refused-file k table room {y} e h =
-      promised_refused (refusals f) (decoded f) (vertices f) k table room y (bars_file (refusals f) (decoded f) (vertices f) (length table) (length room) (omega arith) ∙ e) h refl
+  refused-file k table room {r} e =
+      promised_refused (refusals f) (decoded f) (vertices f) k table room r (bars_file (refusals f) (decoded f) (vertices f) (length table) (length room) (omega (arith, number_above r)) ∙ e) refl
 
   -- what is promised of the mesh that was read is promised of the file
   pub promised_file : {m : Mesh} {n : ℕ} {k table room table' room' : List ℕ} {a : Answer} → refusal f ≡ 0 → m ≡ decoded f → n ≡ vertices f → Promised [] m n k table room a table' room' → Portioned f k table room a table' room'

@@ -18,20 +18,19 @@ use Rattle.neighbours.specs.Table.{table_of}
 use Rattle.portions.specs.Portions.{reply, refused, given, after, records, last_mark, portion_of, portion}
 use Rattle.rule.specs.Rule.{tet_rule}
 use Rattle.record.specs.Entries.{record_size}
-use Rattle.records.specs.declared.Answer.{Answer}
-use Rattle.records.specs.declared.Answer.TheVariants.{Refused, Given}
-use Rattle.records.specs.Marks.{says, answer_number}
+use Rattle.std.specs.Prelude.{Ok, Err}
+use Rattle.records.specs.Marks.{Answer, says, answer_number}
 use Rattle.portioning.specs.Portion.{barred, portion_by, table_left, Promised}
 use Rattle.portioning.proofs.Promised.{bars_file, bars_table, bars_room}
 
 -- what is said tells the number
 said : (a : Answer) {y : ℕ} → says a ≡ refused y → answer_number a ≡ y
-said (Refused j v) e = cc
-said (Given c b k) e = absurd (true≢false (let v : true ≡ false = cc in v))
+said (Err x) e = cc
+said (Ok x) e = absurd (true≢false (let v : true ≡ false = cc in v))
 
 said-given : (a : Answer) {n : ℕ} {b : Bool} {k : List ℕ} → says a ≡ given n b k → answer_number a ≡ 0
-said-given (Refused j v) e = absurd (true≢false (let v : true ≡ false = cc in v))
-said-given (Given c b k) e = refl
+said-given (Err x) e = absurd (true≢false (let v : true ≡ false = cc in v))
+said-given (Ok x) e = refl
 
 -- with room for a record a portion of the full list is refused with 12 only
 listed_number : (m : Mesh) (k : List ℕ) (room : ℕ) (a : Answer) → tet_rule.size ≤ room → says a ≡ (portion tet_rule (full_list m) k room).answer → (answer_number a ≡ 0) ⊎ (answer_number a ≡ 12)

@@ -13,9 +13,7 @@ use Rattle.record.specs.Entries.{cell_of}
 use Rattle.rule.specs.Rule.{tet_rule}
 use Rattle.record.specs.declared.Mark.{Mark}
 use Rattle.record.specs.Marks.{mark_of}
-use Rattle.records.specs.declared.Answer.{Answer}
-use Rattle.records.specs.declared.Answer.TheVariants.{Given}
-use Rattle.records.specs.Marks.{says, answer_number}
+use Rattle.records.specs.Marks.{Answer, gave, says, answer_number}
 use Rattle.portioning.specs.Portion.{Portioned}
 
 -- ---- demand 2
@@ -32,10 +30,10 @@ Demand2 f = refusal f ≡ 0 → ListedOnce (decoded f)
 pub data Called (f : List ℕ) : Mark → List (List ℕ) → List (List ℕ) → List ℕ → Bool → Mark → Type 0 where
   none : {k : Mark} → Called f k [] [] [] false k
   last : {k k' : Mark} {table room table' left : List ℕ} {n : ℕ}
-      → Portioned f (mark_of k) table room (Given n true k') table' left
+      → Portioned f (mark_of k) table room (gave n true k') table' left
       → Called f k (table ∷ []) (room ∷ []) (take (n * tet_rule.size) left) true k'
   more : {k j k' : Mark} {table room table' left got : List ℕ} {tables rooms : List (List ℕ)} {n : ℕ} {over : Bool}
-      → Portioned f (mark_of k) table room (Given n false j) table' left → Called f j tables rooms got over k'
+      → Portioned f (mark_of k) table room (gave n false j) table' left → Called f j tables rooms got over k'
       → Called f k (table ∷ tables) (room ∷ rooms) (take (n * tet_rule.size) left ++ got) over k'
 
 -- portions laid end to end are the cells after the first mark, whatever the mark, the rooms and the tables

@@ -4,6 +4,9 @@ use mathlib.Core.Bool.{Bool}
 use Prim.Native.Nat.{ℕ, ◌+◌, ◌*◌, ◌-◌, ◌/◌, ◌%◌, ◌≤◌, ◌<◌}
 use native.Mathlib.Omega.{arith}
 use borrow.Author.Tests.{lt-ltb, le-ltb, le-leb, lt-leb}
+use Rattle.std.specs.Prelude.{None}
+use Rattle.reading_words.specs.declared.Form.{Form}
+use Rattle.reading_words.specs.declared.Form.TheVariants.{Number}
 use Rattle.reading_words.specs.declared.Spot.{Spot}
 use Rattle.reading_words.specs.declared.Spot.TheVariants.{Count, Coordinate, Label, Part}
 use Rattle.reading_words.specs.Steps.{tet_spot, spot_of, most, word_fault}
@@ -20,7 +23,7 @@ tet-part x j e =
     let q : x / 5 ≡ j = omega arith in
     rw (le-ltb (x % 5) 4 (omega arith), q)
 
-module _ (l f : ℕ) (m : Bool) (v k n t : ℕ) where
+module _ (l : ℕ) (f : Form) (m : Bool) (v k n t : ℕ) where
   pub spot_count : k < 2 → spot_of (in_word l f m v k n t) ≡ Count
   unfolding spot_of
   spot_count h = rw (lt-ltb k 2 h)
@@ -41,6 +44,6 @@ module _ (l f : ℕ) (m : Bool) (v k n t : ℕ) where
   spot_part j e g = behind_is (5 * j + 4) e (omega arith) ∙ tet-part (k - (2 + 3 * n)) j (omega arith)
 
 -- a number that is not too large for its place has no fault
-pub no_fault : (l : ℕ) (m : Bool) (v k n t : ℕ) (s : Spot) → spot_of (in_word l 2 m v k n t) ≡ s → k < 2 + 3 * n + 5 * t → v ≤ most s m → word_fault (in_word l 2 m v k n t) ≡ 0
+pub no_fault : (l : ℕ) (m : Bool) (v k n t : ℕ) (s : Spot) → spot_of (in_word l Number m v k n t) ≡ s → k < 2 + 3 * n + 5 * t → v ≤ most s m → word_fault (in_word l Number m v k n t) ≡ None
 unfolding word_fault
 no_fault l m v k n t s e b h = rw (lt-leb (2 + 3 * n + 5 * t) k b, e, le-leb v (most s m) h)

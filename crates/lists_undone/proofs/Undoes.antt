@@ -11,8 +11,7 @@ use lib.ListN.{length, get_or, set}
 use Rattle.base.specs.Lists.{spread, from, up_to}
 use Rattle.writing_lists.specs.Printed.{signed_text, line_of, vertex_row, tet_row, text_of}
 use Rattle.reading_words.specs.Steps.{begun}
-use Rattle.reading_lists.specs.declared.Said.TheVariants.{Lists}
-use Rattle.reading_lists.specs.Reading.{Reading, reading, read_all, read_text, said_by}
+use Rattle.reading_lists.specs.Reading.{Reading, reading, read_all, read_text, lists, said_by}
 use Rattle.reading_lists.proofs.Pieces.{read-pieces}
 use Rattle.lists_undone.specs.Undone.{Typed, Held, Texts}
 use Rattle.lists_undone.proofs.Readers.{at_rest}
@@ -125,7 +124,7 @@ module _ (cs cs₀ : List ℤ) (ls ls₀ ps ps₀ : List ℕ) (n t : ℕ) (y : T
       let w = tets t 0 (read_all (c ++ vertex_text) s) (omega arith) (rw (add-zero (2 + 3 * n)) v) in
       pieces-rest (text_of cs ls ps) (10 ∷ []) s (end_rests (rw text-is (pieces-rest (c ++ vertex_text) tet_text s w)))
 
-  all_said : (l : ℕ) → said_by (at_rest l (2 + 3 * n + 5 * t) n t) ≡ Lists n t
+  all_said : (l : ℕ) → said_by (at_rest l (2 + 3 * n + 5 * t) n t) ≡ lists n t
   unfolding said_by
   all_said l = rw (le-ltb (2 + 3 * n + 5 * t) (2 + 3 * n + 5 * t) (omega arith))
 

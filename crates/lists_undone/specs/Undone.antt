@@ -4,8 +4,7 @@ use Rattle.std.specs.Prelude.{ℕ, ◌*◌, ◌≤◌, ◌<◌, ◌≡◌, List,
 use Rattle.std.specs.Int.Signed.{mag}
 use Rattle.writing_lists.specs.Printed.{text_of}
 use Rattle.reading_words.specs.Steps.{begun}
-use Rattle.reading_lists.specs.Reading.{Reading, reading, read_all, read_text, said_by}
-use Rattle.reading_lists.specs.declared.Said.TheVariants.{Lists}
+use Rattle.reading_lists.specs.Reading.{Reading, reading, read_all, read_text, lists, said_by}
 
 -- lists of n vertices and t tetrahedra, each entry of which fits its type
 pub record Typed (cs : List ℤ) (ls ps : List ℕ) (n t : ℕ) : Type 0 where
@@ -20,7 +19,7 @@ pub record Typed (cs : List ℤ) (ls ps : List ℕ) (n t : ℕ) : Type 0 where
 
 -- lent lists that are long enough hold the lists, and behind them what they held
 pub record Held (cs cs₀ : List ℤ) (ls ls₀ ps ps₀ : List ℕ) (n t : ℕ) (s : Reading) : Type 0 where
-  pub said : said_by s.reader ≡ Lists n t
+  pub said : said_by s.reader ≡ lists n t
   pub coordinates : s.coordinates ≡ cs ++ drop (length cs) cs₀
   pub labels : s.labels ≡ ls ++ drop (length ls) ls₀
   pub parts : s.parts ≡ ps ++ drop (length ps) ps₀

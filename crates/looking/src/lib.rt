@@ -7,14 +7,12 @@
 ghost use Rattle.std.specs.Prelude.{◌*◌, ◌/◌, ◌≤◌, ◌<◌, ◌≡◌, length};
 ghost use Rattle.layout.specs.between.Framed.{Framed};
 
-use decoding::decode;
+use arrays::{Counts, Lists, Room};
 use reasons::Finding;
-use space::{Boxed, Point, Vertex};
-use tallies::{counts, own_at, two_parts_of};
+use space::{Point, Vertex};
+use tallies::{counts, own_at, sharers_at, two_parts_of};
 use templates::corner;
 use verdict::{Bounds, all_rows, bounds_of};
-use view::Located;
-use writing_lists::size_of;
 
 // A tuple of a kind, and what was found of it.
 #[derive(Clone, Copy)]
@@ -79,11 +77,7 @@ fn spot_of(kind: u16, found: Finding) -> Spot
 
 // The corner that stands at place j of the tables, 0 past their end.
 fn place(j: usize) -> u8 {
-    let all = all_rows();
-    if j < all.len() {
-        return all[j];
-    }
-    0
+    all_rows().get(j).copied().unwrap_or(0)
 }
 
 fn places(j: usize) -> [u8; 4]
@@ -99,8 +93,12 @@ fn counts_of(labels: &[u16], parts: &[u16], kind: u16, tuple: &[u16; 8], found: 
 {
     let Spot { at, width } = spot_of(kind, found);
     match found {
-        Finding::NoFace(_) => counts(labels, kind, tuple, places(at), width, false),
-        Finding::OpenFace(_) => counts(labels, kind, tuple, places(at), width, true),
+        Finding::NoFace(_) => counts(tuple, places(at), width, |u, v, w| {
+            sharers_at(labels, u, v, w)
+        }),
+        Finding::OpenFace(_) => counts(tuple, places(at), width, |u, v, w| {
+            own_at(labels, kind, tuple, u, v, w)
+        }),
         Finding::OpenTriple(u, v, w) => {
             let k = own_at(labels, kind, tuple, Vertex(u), Vertex(v), Vertex(w));
             [(k % 65536) as u16, 0, 0, 0]
@@ -114,25 +112,13 @@ fn counts_of(labels: &[u16], parts: &[u16], kind: u16, tuple: &[u16; 8], found: 
 
 // The point of a corner of a tuple.
 fn point_in(file: &[u8], n: usize, t: usize, tuple: &[u16], at: u8) -> Point {
-    let found = view::point_of(file, n, t, Vertex(corner(tuple, at)));
-    match found {
-        Located::At(p) => p,
-        Located::Nowhere => Point { x: 0, y: 0, z: 0 },
-    }
+    view::point_of(file, n, t, Vertex(corner(tuple, at))).unwrap_or(Point { x: 0, y: 0, z: 0 })
 }
 
 // How far the box at a corner triple is from 0.
 fn box_at(file: &[u8], n: usize, t: usize, tuple: &[u16; 8], p: [u8; 4]) -> u64 {
-    let answer = space::box_product(
-        point_in(file, n, t, tuple, p[0]),
-        point_in(file, n, t, tuple, p[1]),
-        point_in(file, n, t, tuple, p[2]),
-        point_in(file, n, t, tuple, p[3]),
-    );
-    match answer {
-        Boxed::Value(b) => size_of(b),
-        Boxed::Refused => 0,
-    }
+    let [a, b, c, d] = p.map(|at| point_in(file, n, t, tuple, at));
+    space::box_product(a, b, c, d).map_or(0, i64::unsigned_abs)
 }
 
 // ---- all of it
@@ -164,20 +150,23 @@ fn line_of(n: usize, kind: u16, found: Finding, counts: [u16; 4]) -> [u16; 10]
     ]
 }
 
-fn seen_in(
-    file: &[u8],
-    coords: &mut [i64],
-    labels: &mut [u16],
-    parts: &mut [u16],
-    asked: Asked,
-) -> Seen
-    requires framed { Framed file.now (length coords.old / 3) (length parts.old) }
-    requires coords_len { (length coords.old ≡ 3 * (length coords.old / 3)) × (length labels.old ≡ 4 * length parts.old) }
+// Of a file with a sound header.
+pub fn look(file: &[u8], n: usize, t: usize, asked: Asked) -> Seen
+    requires { Framed file.now n t }
     ensures { 10 ≡ length result.line }
 {
-    let n = coords.len() / 3;
-    let t = parts.len();
-    decode(file, n, t, coords, labels, parts);
+    let mut room = Room::new();
+    let Lists {
+        coords: _,
+        labels,
+        parts,
+    } = room.decode(
+        file,
+        Counts {
+            vertices: n,
+            tets: t,
+        },
+    );
     let Asked { kind, tuple, found } = asked;
     let Spot { at, width: _ } = spot_of(kind, found);
     Seen {
@@ -189,40 +178,4 @@ fn seen_in(
         ),
         box_size: box_at(file, n, t, &tuple, places(at)),
     }
-}
-
-// Rooms, their lengths alone told.
-fn coordinate_room() -> [i64; 1536]
-    ensures { 1536 ≡ length result }
-{
-    [0; 1536]
-}
-
-fn label_room() -> [u16; 8192]
-    ensures { 8192 ≡ length result }
-{
-    [0; 8192]
-}
-
-fn part_room() -> [u16; 2048]
-    ensures { 2048 ≡ length result }
-{
-    [0; 2048]
-}
-
-// Of a file with a sound header.
-pub fn look(file: &[u8], n: usize, t: usize, asked: Asked) -> Seen
-    requires { Framed file.now n t }
-    ensures { 10 ≡ length result.line }
-{
-    let mut coords = coordinate_room();
-    let mut labels = label_room();
-    let mut parts = part_room();
-    seen_in(
-        file,
-        &mut coords[..3 * n],
-        &mut labels[..4 * t],
-        &mut parts[..t],
-        asked,
-    )
 }

@@ -7,17 +7,24 @@ ghost use Rattle.matrix.specs.between.Matrix.{joined_by, is_joined, AddsJoins, o
 
 use space::Vertex;
 
+// How many places a row has, one for each vertex that a mesh may have.
+const SIDE: usize = 512;
+
+// A row of places for each vertex, one behind the other.
+pub type Matrix = [u8; SIDE * SIDE];
+
 // ---- stores
 
-fn join(m: &mut [u8; 262144], u: Vertex, v: Vertex)
-    requires { (length m.old ≡ 262144) × (u.0 < 512) × (v.0 < 512) }
+fn join(m: &mut Matrix, u: Vertex, v: Vertex)
+    requires { (u.0 < 512) × (v.0 < 512) }
     ensures { AddsJoins m.old m.new (one_pair u.0 v.0) }
 {
-    m[(u.0 as usize) * 512 + (v.0 as usize)] = 1;
+    m[usize::from(u.0) * SIDE + usize::from(v.0)] = 1;
 }
 
-fn join_row(m: &mut [u8; 262144], u: Vertex, a: Vertex, b: Vertex, c: Vertex, d: Vertex)
-    requires { (length m.old ≡ 262144) × (u.0 < 512) × ((a.0 < 512) × (b.0 < 512)) × ((c.0 < 512) × (d.0 < 512)) }
+// Four straight lines, here and below: for a loop the four would have to be put in an array first.
+fn join_row(m: &mut Matrix, u: Vertex, a: Vertex, b: Vertex, c: Vertex, d: Vertex)
+    requires { (u.0 < 512) × ((a.0 < 512) × (b.0 < 512)) × ((c.0 < 512) × (d.0 < 512)) }
     ensures { AddsJoins m.old m.new (row_pairs u.0 a.0 b.0 c.0 d.0) }
 {
     join(m, u, a);
@@ -26,8 +33,8 @@ fn join_row(m: &mut [u8; 262144], u: Vertex, a: Vertex, b: Vertex, c: Vertex, d:
     join(m, u, d);
 }
 
-fn join_tet(m: &mut [u8; 262144], a: Vertex, b: Vertex, c: Vertex, d: Vertex)
-    requires { (length m.old ≡ 262144) × ((a.0 < 512) × (b.0 < 512)) × ((c.0 < 512) × (d.0 < 512)) }
+fn join_tet(m: &mut Matrix, a: Vertex, b: Vertex, c: Vertex, d: Vertex)
+    requires { ((a.0 < 512) × (b.0 < 512)) × ((c.0 < 512) × (d.0 < 512)) }
     ensures { AddsJoins m.old m.new (tet_pairs a.0 b.0 c.0 d.0) }
 {
     join_row(m, a, a, b, c, d);
@@ -44,50 +51,43 @@ fn label(labels: &[u16], k: usize) -> Vertex
 }
 
 // Joins every two vertices of every tetrahedron.
-pub fn join_all(m: &mut [u8; 262144], labels: &[u16])
-    requires { (length m.old ≡ 262144) × ((k : ℕ) → k < length labels.now → get_or labels.now k 0 < 512) }
+pub fn join_all(m: &mut Matrix, labels: &[u16])
+    requires { (k : ℕ) → k < length labels.now → get_or labels.now k 0 < 512 }
     ensures { AddsJoins m.old m.new (joined_by labels.now (length labels.now / 4)) }
 {
     let t = labels.len() / 4;
-    let mut i = 0;
-    while i < t {
+    for i in 0..t {
         let j = 4 * i;
         let a = label(labels, j);
         let b = label(labels, j + 1);
         let c = label(labels, j + 2);
         let d = label(labels, j + 3);
         join_tet(m, a, b, c, d);
-        i += 1;
     }
 }
 
 // ---- rows
 
 // The two are joined, and differ. v stays plain: it runs along a row, and to narrow it costs an instruction a place.
-pub fn is_next(m: &[u8; 262144], u: Vertex, v: usize) -> bool
+pub fn is_next(m: &Matrix, u: Vertex, v: usize) -> bool
     requires { (u.0 < 512) × (v < 512) }
     ensures { result ≡ next_to (is_joined m.now) u.0 v }
 {
-    let k = u.0 as usize;
-    if k == v {
-        return false;
-    }
-    m[k * 512 + v] != 0
+    let k = usize::from(u.0);
+    k != v && m[k * SIDE + v] != 0
 }
 
 // Whether row u joins none of the 16 vertices from v on.
 // No place is tested alone, so that the compiler reads all 16 at once.
-pub fn is_blank(m: &[u8; 262144], u: Vertex, v: usize) -> bool
+pub fn is_blank(m: &Matrix, u: Vertex, v: usize) -> bool
     requires { (u.0 < 512) × (v + 16 ≤ 512) }
     ensures { result ≡ true → Blank m.now u.0 v 16 }
 {
-    let k = u.0 as usize;
-    let from = k * 512 + v;
+    let k = usize::from(u.0);
+    let from = k * SIDE + v;
     let mut x = 0;
-    let mut i = 0;
-    while i < 16 {
-        x = x | m[from + i];
-        i += 1;
+    for i in 0..16 {
+        x |= m[from + i];
     }
     x == 0
 }

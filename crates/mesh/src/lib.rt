@@ -2,68 +2,32 @@
 #![tactic(auto)]
 
 ghost use Rattle.std.specs.Prelude.{◌≡◌};
-ghost use Rattle.layout.specs.between.Framed.{Framed};
 ghost use Rattle.arrays.specs.Refusals.{checked, refusal};
-ghost use Rattle.arrays.specs.between.Headed.{headed};
-ghost use Rattle.arrays.specs.declared.Checked.TheVariants.{Accepted};
 ghost use Rattle.view.specs.View.{place_in, tetra_in, part_in};
 ghost use Rattle.mesh.specs.Counts.{sizes_in};
 
-use arrays::Checked;
-use space::{Tet, Vertex};
-use view::{Located, Part, Tetra, part_of, point_of, tet_of};
-
-// Refusals 4 to 9, of a file whose header is sound.
-fn check_parts(file: &[u8], n: usize, t: usize) -> Checked
-    requires { Framed file.now n t × (headed file.now ≡ Accepted n t) }
-    ensures { result ≡ checked file.now }
-{
-    let mut coords: [i64; 1536] = [0; 1536];
-    let mut labels: [u16; 8192] = [0; 8192];
-    let mut parts: [u16; 2048] = [0; 2048];
-    let mut offsets: [u16; 513] = [0; 513];
-    let mut entries: [u16; 8192] = [0; 8192];
-    let number = arrays::load(
-        file,
-        n,
-        t,
-        &mut coords[..3 * n],
-        &mut labels[..4 * t],
-        &mut parts[..t],
-        &mut offsets[..n + 1],
-        &mut entries[..4 * t],
-    );
-    if number != 0 {
-        return Checked::Refused(number);
-    }
-    Checked::Accepted {
-        vertices: n,
-        tets: t,
-    }
-}
+use arrays::{Counts, Room};
+use refusals::Refusal;
+use space::{Point, Tet, Vertex};
+use view::{part_of, point_of, tet_of};
 
 // The file's answer: refusals 1 to 9 in their order, else the counts.
-pub fn check(file: &[u8]) -> Checked
+pub fn check(file: &[u8]) -> Result<Counts, Refusal>
     ensures { result ≡ checked file.now }
 {
-    let head = arrays::header(file);
-    match head {
-        Checked::Accepted { vertices, tets } => check_parts(file, vertices, tets),
-        Checked::Refused(number) => Checked::Refused(number),
-    }
+    let counts = arrays::header(file)?;
+    let mut room = Room::new();
+    room.load(file, counts)?;
+    Ok(counts)
 }
 
-// The number of that answer: 0 where the file is accepted.
+// The number of that answer, as the C boundary tells it: 0 where the file is accepted.
 pub fn refusal_of(file: &[u8]) -> u8
     ensures { result ≡ refusal file.now }
 {
-    let found = check(file);
-    match found {
-        Checked::Accepted {
-            vertices: _,
-            tets: _,
-        } => 0,
-        Checked::Refused(number) => number,
+    match check(file) {
+        Ok(_) => 0,
+        Err(refusal) => u8::from(refusal),
     }
 }
 
@@ -79,14 +43,12 @@ pub struct Sizes {
 pub fn counts_of(file: &[u8]) -> Sizes
     ensures { result ≡ sizes_in file.now }
 {
-    let found = check(file);
-    if let Checked::Accepted { vertices, tets } = found {
-        Sizes {
+    match check(file) {
+        Ok(Counts { vertices, tets }) => Sizes {
             n: vertices,
             t: tets,
-        }
-    } else {
-        Sizes { n: 0, t: 0 }
+        },
+        Err(_) => Sizes { n: 0, t: 0 },
     }
 }
 
@@ -122,19 +84,19 @@ pub fn tet_count<'a>(m: View<'a>) -> usize
     m.t
 }
 
-pub fn vertex_point<'a>(m: View<'a>, v: Vertex) -> Located
+pub fn vertex_point<'a>(m: View<'a>, v: Vertex) -> Option<Point>
     ensures { result ≡ place_in m.entry.file.now m.entry.n m.entry.t v }
 {
     point_of(m.file, m.n, m.t, v)
 }
 
-pub fn tet_vertices<'a>(m: View<'a>, e: Tet) -> Tetra
+pub fn tet_vertices<'a>(m: View<'a>, e: Tet) -> Option<[Vertex; 4]>
     ensures { result ≡ tetra_in m.entry.file.now m.entry.n m.entry.t e }
 {
     tet_of(m.file, m.n, m.t, e)
 }
 
-pub fn tet_part<'a>(m: View<'a>, e: Tet) -> Part
+pub fn tet_part<'a>(m: View<'a>, e: Tet) -> Option<u16>
     ensures { result ≡ part_in m.entry.file.now m.entry.n m.entry.t e }
 {
     part_of(m.file, m.n, m.t, e)

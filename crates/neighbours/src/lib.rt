@@ -10,76 +10,64 @@ ghost use Rattle.neighbours.specs.between.Grown.{Grown, part_of, Few};
 ghost use Rattle.neighbours.specs.between.Reading.{row_in, Rowed};
 ghost use Rattle.matrix.specs.between.Matrix.{is_joined, Empty};
 
-use matrix::{is_blank, is_next, join_all};
-use rooms::{Filled, put_if};
+use matrix::{Matrix, is_blank, is_next, join_all};
+use rooms::put_if;
 use space::Vertex;
 use tets_around::Row;
-
-fn wide(x: u16) -> usize
-    ensures { (result ≡ x) × (result < 65536) }
-{
-    x as usize
-}
 
 // ---- rows
 
 // Writes from `from` on those of the k vertices from v on that are next to u; the answer is where the next entry goes.
 // Every vertex is written, and counted where it is next to u: a branch would be slower.
 // What stands behind the answer is not told.
-fn put_part(m: &[u8; 262144], u: Vertex, v: usize, k: usize, rows: &mut [u16], from: usize) -> usize
+fn put_part(m: &Matrix, u: Vertex, v: usize, k: usize, rows: &mut [u16], from: usize) -> usize
     requires { ((u.0 < 512) × (v + k ≤ 512)) × (from + length (part_of (is_joined m.now) u.0 v k) < length rows.old) }
     ensures { Grown from result (part_of (is_joined m.now) u.0 v k) rows.old rows.new }
 {
     let mut at = from;
-    let mut i = 0;
-    while i < k {
-        let w = v + i;
+    for w in v..v + k {
         rows[at] = w as u16;
         if is_next(m, u, w) {
             at += 1;
         }
-        i += 1;
     }
     at
 }
 
 // The same for 16 vertices at once: most blocks of a row have none.
-fn put_block(m: &[u8; 262144], u: Vertex, v: usize, rows: &mut [u16], from: usize) -> usize
+fn put_block(m: &Matrix, u: Vertex, v: usize, rows: &mut [u16], from: usize) -> usize
     requires { ((u.0 < 512) × (v + 16 ≤ 512)) × (from + length (part_of (is_joined m.now) u.0 v 16) < length rows.old) }
     ensures { Grown from result (part_of (is_joined m.now) u.0 v 16) rows.old rows.new }
 {
     if is_blank(m, u, v) {
-        return from;
+        from
+    } else {
+        put_part(m, u, v, 16, rows, from)
     }
-    put_part(m, u, v, 16, rows, from)
 }
 
 // Writes one row from `from` on: whole blocks, then the vertices that are left.
-fn put_row(m: &[u8; 262144], n: usize, u: Vertex, rows: &mut [u16], from: usize) -> usize
+fn put_row(m: &Matrix, n: usize, u: Vertex, rows: &mut [u16], from: usize) -> usize
     requires { ((u.0 < 512) × (n ≤ 512)) × (from + length (neighbour_row (is_joined m.now) n u.0) < length rows.old) }
     ensures { Grown from result (neighbour_row (is_joined m.now) n u.0) rows.old rows.new }
 {
     let mut at = from;
-    let mut v = 0;
-    while v + 16 <= n {
-        at = put_block(m, u, v, rows, at);
-        v += 16;
+    for i in 0..n / 16 {
+        at = put_block(m, u, 16 * i, rows, at);
     }
-    put_part(m, u, v, n - v, rows, at)
+    put_part(m, u, n - n % 16, n % 16, rows, at)
 }
 
 // Writes all rows, and where each starts; the answer is how many entries they have.
-fn put_rows(m: &[u8; 262144], n: usize, starts: &mut [u16], rows: &mut [u16]) -> usize
+fn put_rows(m: &Matrix, n: usize, starts: &mut [u16], rows: &mut [u16]) -> usize
     requires { ((n ≤ 512) × (n < length starts.old)) × ((24576 < length rows.old) × Few (neighbour_row (is_joined m.now) n)) }
     ensures offsets { Grown 0 (n + 1) (offsets (neighbour_row (is_joined m.now) n) n) starts.old starts.new }
     ensures entries { Grown 0 result (first_rows (neighbour_row (is_joined m.now) n) n) rows.old rows.new }
 {
     let mut at = 0;
-    let mut u = 0;
-    while u < n {
+    for u in 0..n {
         starts[u] = at as u16;
         at = put_row(m, n, Vertex(u as u16), rows, at);
-        u += 1;
     }
     starts[n] = at as u16;
     at
@@ -87,17 +75,18 @@ fn put_rows(m: &[u8; 262144], n: usize, starts: &mut [u16], rows: &mut [u16]) ->
 
 // ---- the table
 
-// Whether the slice has room for the neighbour table of n vertices; the table is written where it has, if it is wanted.
+// How many entries the neighbour table of n vertices has, where the slice has room for it;
+// the table is written where it has, if it is wanted.
 // It is made in an empty matrix and in rooms for the offsets and the rows.
 fn fill_by(
-    m: &mut [u8; 262144],
+    m: &mut Matrix,
     starts: &mut [u16],
     rows: &mut [u16],
     labels: &[u16],
     n: usize,
     wanted: bool,
     table: &mut [u16],
-) -> Filled
+) -> Option<usize>
     requires n_bound { (n ≤ 512) × (Labelled labels.now n × Empty m.old) }
     requires n_in_bounds { (n < length starts.old) × (24576 < length rows.old) }
     ensures answer { result ≡ filled_by (table_in labels.now n) (length table.old) }
@@ -108,10 +97,11 @@ fn fill_by(
     put_if(&starts[..n + 1], &rows[..e], wanted, table)
 }
 
-// Whether the slice has room for the neighbour table of n vertices; the table is written where it has, if it is wanted.
+// How many entries the neighbour table of n vertices has, where the slice has room for it;
+// the table is written where it has, if it is wanted.
 // It is made in local room, since the slice must stay as it is where it is too short.
 // A row's writing needs one entry more than it fills.
-pub fn fill_if(labels: &[u16], n: usize, wanted: bool, table: &mut [u16]) -> Filled
+pub fn fill_if(labels: &[u16], n: usize, wanted: bool, table: &mut [u16]) -> Option<usize>
     requires { (n ≤ 512) × Labelled labels.now n }
     ensures answer { result ≡ filled_by (table_in labels.now n) (length table.old) }
     ensures content { table.new ≡ cond wanted (laid_by (table_in labels.now n) table.old) table.old }
@@ -129,10 +119,10 @@ pub fn neighbour_row(n: usize, table: &[u16], v: Vertex) -> Row
     requires { Rowed n table.now }
     ensures { result ≡ row_in n table.now v.0 }
 {
-    let u = v.0 as usize;
+    let u = usize::from(v.0);
     if u < n {
-        let start = wide(table[u]);
-        let end = wide(table[u + 1]);
+        let start = usize::from(table[u]);
+        let end = usize::from(table[u + 1]);
         Row {
             from: n + 1 + start,
             size: end - start,

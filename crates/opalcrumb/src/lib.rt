@@ -14,11 +14,9 @@ ghost use Rattle.why.specs.Why.{explained};
 ghost use Rattle.records.specs.Marks.{answer_number};
 ghost use Rattle.opalcrumb.specs.Boundary.{length_left, point_of, boxed_by, box_left, least_left, mark_left, count_left, end_left, Passed};
 
-use packing::Written;
 use record::{mark_of, numbers_of};
-use records::Answer;
-use space::{Boxed, Point};
-use turning::Least;
+use records::{Given, Refused};
+use space::Point;
 
 // 0 for a sound mesh, else refusal 1 to 9.
 pub fn opalcrumb_check(file: &[u8]) -> u32
@@ -44,32 +42,20 @@ pub fn opalcrumb_write(
     ensures written { written.new
         ≡ length_left (packed coordinates.now numbers.now parts.now (length room.old)) written.old }
 {
-    let answer = packing::write(coordinates, numbers, parts, room);
-    match answer {
-        Written::Whole(size) => {
+    match packing::write(coordinates, numbers, parts, room) {
+        Ok(size) => {
             *written = size;
             0
         }
-        Written::Refused(number) => number as u32,
+        Err(refusal) => u8::from(refusal) as u32,
     }
 }
 
-// A 32-bit number at 64 bits.
-fn wide(x: i32) -> i64
-    ensures { result ≡ x }
-{
-    x as i64
-}
-
-fn point_of(p: &[i32]) -> Point
-    requires { length p.now ≡ 3 }
+fn point_of(p: &[i32; 3]) -> Point
     ensures { result ≡ point_of p.now }
 {
-    Point {
-        x: wide(p[0]),
-        y: wide(p[1]),
-        z: wide(p[2]),
-    }
+    let [x, y, z] = p.map(i64::from);
+    Point { x, y, z }
 }
 
 // 0 and the box product of four points, or 4 where a coordinate is out of bounds, and `value` as it was.
@@ -80,11 +66,11 @@ pub fn opalcrumb_box(p: &[i32; 3], q: &[i32; 3], r: &[i32; 3], s: &[i32; 3], val
 {
     let answer = space::box_product(point_of(p), point_of(q), point_of(r), point_of(s));
     match answer {
-        Boxed::Value(b) => {
+        Some(b) => {
             *value = b;
             0
         }
-        Boxed::Refused => 4,
+        None => 4,
     }
 }
 
@@ -93,13 +79,12 @@ pub fn opalcrumb_least_form(kind: u16, corners: &[u16; 8], least: &mut [u16; 8])
     ensures answer { result ≡ least_number (least_form kind corners.now) }
     ensures least { least.new ≡ least_left (least_form kind corners.now) least.old }
 {
-    let answer = turning::least_form(kind, *corners);
-    match answer {
-        Least::Form(a, b, c, d, e, f, g, h) => {
-            *least = [a, b, c, d, e, f, g, h];
+    match turning::least_form(kind, *corners) {
+        Some(form) => {
+            *least = form;
             0
         }
-        Least::Refused => 13,
+        None => 13,
     }
 }
 
@@ -110,32 +95,45 @@ pub fn opalcrumb_why(file: &[u8], kind: u16, corners: &[u16; 8], answer: &mut [u
     ensures number { result ≡ finding_number (explained file.now kind corners.now) }
     ensures answer { answer.new ≡ entries_left (explained file.now kind corners.now) answer.old }
 {
-    let found = why::explain(file, kind, corners);
-    findings::hand_out(found, answer) as u32
+    match why::explain(file, kind, corners) {
+        Ok(found) => {
+            findings::hand_out(found, answer);
+            0
+        }
+        Err(refusal) => u8::from(refusal) as u32,
+    }
 }
 
 // ---- a portion
 
 // An answer handed out: its number, and in the lent places what it tells.
-fn hand_out(answer: Answer, mark: &mut [u16; 9], count: &mut u32, end: &mut u32) -> u32
+fn hand_out(
+    answer: Result<Given, Refused>,
+    mark: &mut [u16; 9],
+    count: &mut u32,
+    end: &mut u32,
+) -> u32
     ensures number { result ≡ answer_number answer }
     ensures mark { mark.new ≡ mark_left answer mark.old }
     ensures count { count.new ≡ count_left answer count.old }
     ensures end { end.new ≡ end_left answer end.old }
 {
     match answer {
-        Answer::Refused { number, written } => {
+        Err(Refused { refusal, written }) => {
+            let number = u8::from(refusal);
             if number == 12 {
                 *count = (written % 4294967296) as u32;
                 return 12;
             }
             number as u32
         }
-        Answer::Given {
-            count: written,
-            none_remain,
-            mark: next,
-        } => {
+        Ok(
+            Given {
+                count: written,
+                none_remain,
+                mark: next,
+            },
+        ) => {
             *mark = numbers_of(next);
             *count = (written % 4294967296) as u32;
             *end = none_remain as u32;

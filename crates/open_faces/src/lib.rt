@@ -12,8 +12,9 @@ ghost use Rattle.reasons.specs.First.{first_fail};
 ghost use Rattle.reasons.specs.Reason.{faces_by, halves, is_closed};
 ghost use Rattle.open_faces.specs.between.Counts.{sides_at, sides_in};
 
-use cells::{corners3, corners4};
+use cells::corners_at;
 use own::belongs_to;
+use reasons::first_fail;
 use space::{Tet, Vertex, tet_has3};
 
 // ---- counts
@@ -24,14 +25,7 @@ fn side(labels: &[u16], e: Tet, c: &[u16], quads: &[u8], u: Vertex, v: Vertex, w
     ensures { (result ≡ cond (has_all labels.now (u.0 ∷ v.0 ∷ w.0 ∷ []) e.0
         && owns_by labels.now quads.now c.now e.0) 1 0) × (result ≤ 1) }
 {
-    if !tet_has3(labels, e, u, v, w) {
-        return 0;
-    }
-    if belongs_to(labels, e, c, quads) {
-        1
-    } else {
-        0
-    }
+    (tet_has3(labels, e, u, v, w) && belongs_to(labels, e, c, quads)) as usize
 }
 
 // Of how many of the cell's tetrahedra three vertices are a facet.
@@ -41,10 +35,8 @@ pub fn sides_at(labels: &[u16], c: &[u16], quads: &[u8], u: Vertex, v: Vertex, w
 {
     let t = labels.len() / 4;
     let mut found: usize = 0;
-    let mut i: usize = 0;
-    while i < t {
+    for i in 0..t {
         found += side(labels, Tet(i as u16), c, quads, u, v, w);
-        i += 1;
     }
     found
 }
@@ -54,18 +46,11 @@ pub fn sides_row(labels: &[u16], c: &[u16], quads: &[u8], x: &[u16], rows: &[u8]
     requires { (length labels.now / 4 ≤ 2048) × (i < length rows.now / 3) }
     ensures { result ≡ sides_in labels.now quads.now c.now x.now (row3 rows.now i) }
 {
-    let f = corners3(x, rows, i);
+    let f = corners_at::<3>(x, rows, i);
     sides_at(labels, c, quads, Vertex(f[0]), Vertex(f[1]), Vertex(f[2]))
 }
 
 // ---- triangles
-
-fn is_once(labels: &[u16], c: &[u16], quads: &[u8], x: &[u16], rows: &[u8], i: usize) -> bool
-    requires { (length labels.now / 4 ≤ 2048) × (i < length rows.now / 3) }
-    ensures { result ≡ once (sides_in labels.now quads.now c.now x.now) (row3 rows.now i) }
-{
-    sides_row(labels, c, quads, x, rows, i) == 1
-}
 
 // The first row of a table of places of x that is not a facet of exactly one.
 fn first_not_once(labels: &[u16], c: &[u16], quads: &[u8], x: &[u16], rows: &[u8]) -> usize
@@ -73,15 +58,9 @@ fn first_not_once(labels: &[u16], c: &[u16], quads: &[u8], x: &[u16], rows: &[u8
     ensures { result ≡ first_fail (once (sides_in labels.now quads.now c.now x.now))
         (threes rows.now) }
 {
-    let k = rows.len() / 3;
-    let mut i = 0;
-    while i < k {
-        if !is_once(labels, c, quads, x, rows, i) {
-            return i;
-        }
-        i += 1;
-    }
-    i
+    first_fail(rows.len() / 3, |i| {
+        sides_row(labels, c, quads, x, rows, i) == 1
+    })
 }
 
 // ---- quadrilaterals
@@ -104,12 +83,8 @@ fn is_halved(labels: &[u16], c: &[u16], quads: &[u8], i: usize) -> bool
     requires { (length labels.now / 4 ≤ 2048) × (i < length quads.now / 4) }
     ensures { result ≡ halves (sides_in labels.now quads.now c.now c.now) (row4 quads.now i) }
 {
-    let q = corners4(c, quads, i);
-    let other = all_once(labels, c, quads, &q, &OTHER);
-    if all_once(labels, c, quads, &q, &ONE) {
-        return !other;
-    }
-    other
+    let q = corners_at::<4>(c, quads, i);
+    all_once(labels, c, quads, &q, &ONE) != all_once(labels, c, quads, &q, &OTHER)
 }
 
 fn first_not_halved(labels: &[u16], c: &[u16], quads: &[u8]) -> usize
@@ -117,15 +92,7 @@ fn first_not_halved(labels: &[u16], c: &[u16], quads: &[u8]) -> usize
     ensures { result ≡ first_fail (halves (sides_in labels.now quads.now c.now c.now))
         (fours quads.now) }
 {
-    let k = quads.len() / 4;
-    let mut i = 0;
-    while i < k {
-        if !is_halved(labels, c, quads, i) {
-            return i;
-        }
-        i += 1;
-    }
-    i
+    first_fail(quads.len() / 4, |i| is_halved(labels, c, quads, i))
 }
 
 // The row of the first face that offends, triangles before quadrilaterals; how many faces there are where none does.

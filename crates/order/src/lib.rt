@@ -1,12 +1,12 @@
 // Letter order and search order: a cell's corners are told in the one, and a search goes by the other.
 #![tactic(auto)]
 
-ghost use Rattle.std.specs.Prelude.{◌≡◌, cond, ◌≤◌, eqb};
+ghost use Rattle.std.specs.Prelude.{◌≡◌, ◌≤◌};
 ghost use Rattle.base.specs.Lists.{pad};
-ghost use Rattle.templates.specs.Tables.{prism, pyramid, template_of, at};
-ghost use Rattle.templates.specs.between.Eight.{eight};
+ghost use Rattle.templates.specs.Kinds.{template};
+ghost use Rattle.templates.specs.Tables.{template_of, at};
 
-use templates::turned;
+use templates::{Kind, turned};
 
 // Of a hexahedron the place of each corner in search order, and the corner at each place.
 // Of the other kinds the two orders are one.
@@ -22,38 +22,40 @@ const PYRAMID_PLACES: [u8; 5] = [0, 1, 2, 3, 4];
 pub fn corners_of(kind: u16) -> usize
     ensures { (result ≡ (template_of kind).corners) × ((5 ≤ result) × (result ≤ 8)) }
 {
-    if kind == 8 {
-        return 8;
-    }
-    if kind == 6 { 6 } else { 5 }
+    Kind::from(kind).corners()
 }
 
-// A tuple of a prism or a pyramid: 0 where the kind has no corner.
-fn trimmed(kind: u16, c: &[u16]) -> [u16; 8]
-    ensures { result ≡ eight (at c.now (cond (eqb kind 6) prism.places pyramid.places)) }
+fn places_of(kind: Kind) -> &'static [u8]
+    ensures { result.now ≡ (template kind).places }
 {
-    if kind == 6 {
-        return turned(c, &PRISM_PLACES);
+    match kind {
+        Kind::Hexahedron => &HEX_PLACES,
+        Kind::Prism => &PRISM_PLACES,
+        Kind::Pyramid => &PYRAMID_PLACES,
     }
-    turned(c, &PYRAMID_PLACES)
+}
+
+// Two tables of each kind, a match for each; so have `least` and `turning` theirs.
+fn order_of(kind: Kind) -> &'static [u8]
+    ensures { result.now ≡ (template kind).order }
+{
+    match kind {
+        Kind::Hexahedron => &HEX_ORDER,
+        Kind::Prism => &PRISM_PLACES,
+        Kind::Pyramid => &PYRAMID_PLACES,
+    }
 }
 
 // A tuple in search order as letters, 0 where the kind has no corner.
 pub fn letters(kind: u16, s: [u16; 8]) -> [u16; 8]
     ensures { result ≡ pad 8 0 (at s (template_of kind).places) }
 {
-    if kind == 8 {
-        return turned(&s, &HEX_PLACES);
-    }
-    trimmed(kind, &s)
+    turned(&s, places_of(Kind::from(kind)))
 }
 
 // Letters as a tuple in search order, 0 where the kind has no corner.
 pub fn ordered(kind: u16, c: [u16; 8]) -> [u16; 8]
     ensures { result ≡ pad 8 0 (at c (template_of kind).order) }
 {
-    if kind == 8 {
-        return turned(&c, &HEX_ORDER);
-    }
-    trimmed(kind, &c)
+    turned(&c, order_of(Kind::from(kind)))
 }

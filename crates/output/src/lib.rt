@@ -1,27 +1,47 @@
-// Lines written to a writer, as standard output and standard error are. A line is put into a lent text of 65,536 bytes
-// first.
+// Lines written to a writer, as standard output and standard error are. A line is put into a lent text first.
 #![tactic(auto)]
 
-ghost use Rattle.std.specs.Prelude.{◌+◌, ◌≤◌, ◌≡◌, IsTrue, List, ℕ, [], ◌∷◌, ◌++◌, length, take};
+ghost use Rattle.std.specs.Prelude.{◌+◌, ◌≤◌, ◌≡◌, IsTrue, OnOk, IfOk, List, ℕ, [], ◌∷◌, ◌++◌, length, take};
 ghost use Rattle.std.specs.Io.KnownBytes.{Appends};
 ghost use Rattle.lines.specs.Text.{spaced, numbers};
 
 use lines::{put_number, put_numbers, put_text};
-use std::io::Write;
+use std::io::{self, Write};
 
-// Writes the first `at` bytes of a text, and answers whether all were taken.
-pub fn show<W: Write>(to: &mut W, out: &[u8], at: usize) -> bool
+// How long a text is.
+pub const TEXT: usize = 65536;
+
+// Where a text has no room for a line more.
+const FULL: usize = 64000;
+
+// What was to be written is lost.
+#[derive(Clone, Copy, Debug, PartialEq, Eq)]
+pub struct Lost;
+
+impl From<io::Error> for Lost {
+    fn from(_e: io::Error) -> Lost {
+        Lost
+    }
+}
+
+// Writes the first `at` bytes of a text.
+pub fn show<W: Write>(to: &mut W, out: &[u8], at: usize) -> Result<(), Lost>
     requires { at ≤ length out.now }
-    ensures { IsTrue result → Appends (W.contents to.old) (W.contents to.new) (take at out.now) }
+    ensures { OnOk result (Appends (W.contents to.old) (W.contents to.new) (take at out.now)) }
 {
-    to.write_all(&out[..at]).is_ok()
+    to.write_all(&out[..at])?;
+    Ok(())
 }
 
 // Writes a line of a word and a number.
-pub fn show_number<W: Write>(to: &mut W, out: &mut [u8], word: &[u8], x: u64) -> bool
-    requires { (length out.old ≡ 65536) × (length word.now ≤ 10) }
-    ensures { IsTrue result
-        → Appends (W.contents to.old) (W.contents to.new) (word.now ++ spaced x ++ 10 ∷ []) }
+pub fn show_number<W: Write>(
+    to: &mut W,
+    out: &mut [u8; TEXT],
+    word: &[u8],
+    x: u64,
+) -> Result<(), Lost>
+    requires { length word.now ≤ 10 }
+    ensures { OnOk result (Appends (W.contents to.old) (W.contents to.new) (word.now ++ spaced x ++ 10 ∷ [])) }
 {
     let a = put_text(out, 0, word);
     let b = put_number(out, a, x);
@@ -30,10 +50,14 @@ pub fn show_number<W: Write>(to: &mut W, out: &mut [u8], word: &[u8], x: u64) ->
 }
 
 // Writes a line of a word and some numbers.
-pub fn show_numbers<W: Write>(to: &mut W, out: &mut [u8], word: &[u8], list: &[u16]) -> bool
-    requires { (length out.old ≡ 65536) × (length word.now ≤ 10) × (length list.now ≤ 10) }
-    ensures { IsTrue result
-        → Appends (W.contents to.old) (W.contents to.new) (word.now ++ numbers list.now ++ 10 ∷ []) }
+pub fn show_numbers<W: Write>(
+    to: &mut W,
+    out: &mut [u8; TEXT],
+    word: &[u8],
+    list: &[u16],
+) -> Result<(), Lost>
+    requires { (length word.now ≤ 10) × (length list.now ≤ 10) }
+    ensures { OnOk result (Appends (W.contents to.old) (W.contents to.new) (word.now ++ numbers list.now ++ 10 ∷ [])) }
 {
     let a = put_text(out, 0, word);
     let b = put_numbers(out, a, list);
@@ -41,27 +65,25 @@ pub fn show_numbers<W: Write>(to: &mut W, out: &mut [u8], word: &[u8], list: &[u
     show(to, out, c)
 }
 
-// Writes the text where it has no room for a line more, and answers where the next goes;
-// past the text where that failed.
-pub fn flushed<W: Write>(to: &mut W, out: &[u8], at: usize) -> usize
-    requires { (length out.now ≡ 65536) × (at ≤ 65536) }
-    ensures { result ≤ 64000 → (w : List ℕ)
+// Writes the text where it has no room for a line more, and answers where the next goes.
+pub fn flushed<W: Write>(to: &mut W, out: &[u8; TEXT], at: usize) -> Result<usize, Lost>
+    requires { at ≤ 65536 }
+    ensures { IfOk result (λ next. (next ≤ 64000) × (w : List ℕ)
         × Appends (W.contents to.old) (W.contents to.new) w
-        × (w ++ take result out.now ≡ take at out.now) }
+        × (w ++ take next out.now ≡ take at out.now)) }
 {
-    if at <= 64000 {
-        return at;
+    if at <= FULL {
+        return Ok(at);
     }
-    if show(to, out, at) { 0 } else { 65537 }
+    show(to, out, at)?;
+    Ok(0)
 }
 
 // ---- a job's answer; on standard error, why there is none
 
-// That it was refused, with this number.
-pub fn tell_refused<W: Write>(err: &mut W, out: &mut [u8], number: u8)
-    requires { length out.old ≡ 65536 }
-{
-    show_number(err, out, b"refused", number as u64);
+// That it was refused, with this number. Where that is lost too, nothing is left to tell.
+pub fn tell_refused<W: Write>(err: &mut W, out: &mut [u8; TEXT], number: u8) {
+    let _ = show_number(err, out, b"refused", u64::from(number));
 }
 
 // That it could not be written.
@@ -73,18 +95,16 @@ pub fn tell_lost<W: Write>(err: &mut W) {
 pub fn show_front<W: Write, E: Write>(to: &mut W, err: &mut E, room: &[u8], size: usize) -> bool
     ensures { IsTrue result → Appends (W.contents to.old) (W.contents to.new) (take size room.now) }
 {
-    if size <= room.len() {
-        if show(to, room, size) {
-            return true;
-        }
+    if size <= room.len() && show(to, room, size).is_ok() {
+        return true;
     }
     tell_lost(err);
     false
 }
 
 // Puts two numbers, each with a space before it.
-fn put_two(out: &mut [u8], at: usize, x: u64, y: u64) -> usize
-    requires { (length out.old ≡ 65536) × (at ≤ 60000) }
+fn put_two(out: &mut [u8; TEXT], at: usize, x: u64, y: u64) -> usize
+    requires { at ≤ 60000 }
     ensures { result ≤ at + 42 }
 {
     let a = put_number(out, at, x);
@@ -94,17 +114,15 @@ fn put_two(out: &mut [u8], at: usize, x: u64, y: u64) -> usize
 // That a text is no lists: its fault, the line, how many numbers stand before it and how many are wanted.
 pub fn tell_wrong<W: Write>(
     err: &mut W,
-    out: &mut [u8],
+    out: &mut [u8; TEXT],
     fault: u8,
     line: u64,
     before: u64,
     wanted: u64,
-)
-    requires { length out.old ≡ 65536 }
-{
+) {
     let a = put_text(out, 0, b"wrong");
-    let b = put_two(out, a, fault as u64, line);
+    let b = put_two(out, a, u64::from(fault), line);
     let c = put_two(out, b, before, wanted);
     let d = put_text(out, c, b"\n");
-    show(err, out, d);
+    let _ = show(err, out, d);
 }

@@ -8,7 +8,7 @@ ghost use Rattle.templates.specs.Tables.{at};
 ghost use Rattle.cells.specs.between.Rows.{fours, owns_by};
 ghost use Rattle.own.specs.between.Stamps.{Hit, has_stamp, Stamped};
 
-use cells::corners4;
+use cells::corners_at;
 use space::{Tet, Vertex};
 use templates::is_in;
 
@@ -19,17 +19,8 @@ fn all_in(labels: &[u16], e: Tet, xs: &[u16]) -> bool
     requires { e.0 < length labels.now / 4 }
     ensures { result ≡ all (λ v. is_in v xs.now) (row4 labels.now e.0) }
 {
-    let at = 4 * (e.0 as usize);
-    if !is_in(labels[at], xs) {
-        return false;
-    }
-    if !is_in(labels[at + 1], xs) {
-        return false;
-    }
-    if !is_in(labels[at + 2], xs) {
-        return false;
-    }
-    is_in(labels[at + 3], xs)
+    let at = 4 * usize::from(e.0);
+    labels[at..at + 4].iter().all(|v| is_in(*v, xs))
 }
 
 // The tetrahedron is quadrilateral j.
@@ -37,7 +28,7 @@ fn on_quad(labels: &[u16], e: Tet, c: &[u16], rows: &[u8], j: usize) -> bool
     requires { (e.0 < length labels.now / 4) × (j < length rows.now / 4) }
     ensures { result ≡ all (λ v. is_in v (at c.now (row4 rows.now j))) (row4 labels.now e.0) }
 {
-    let q = corners4(c, rows, j);
+    let q = corners_at::<4>(c, rows, j);
     all_in(labels, e, &q)
 }
 
@@ -46,15 +37,7 @@ fn on_some_quad(labels: &[u16], e: Tet, c: &[u16], rows: &[u8]) -> bool
     requires { e.0 < length labels.now / 4 }
     ensures { result ≡ any (λ q. all (λ v. is_in v (at c.now q)) (row4 labels.now e.0)) (fours rows.now) }
 {
-    let n = rows.len() / 4;
-    let mut j = 0;
-    while j < n {
-        if on_quad(labels, e, c, rows, j) {
-            return true;
-        }
-        j += 1;
-    }
-    false
+    (0..rows.len() / 4).any(|j| on_quad(labels, e, c, rows, j))
 }
 
 // The tetrahedron is one of the cell's.
@@ -62,10 +45,7 @@ pub fn belongs_to(labels: &[u16], e: Tet, c: &[u16], quads: &[u8]) -> bool
     requires { e.0 < length labels.now / 4 }
     ensures { result ≡ owns_by labels.now quads.now c.now e.0 }
 {
-    if !all_in(labels, e, c) {
-        return false;
-    }
-    !on_some_quad(labels, e, c, quads)
+    all_in(labels, e, c) && !on_some_quad(labels, e, c, quads)
 }
 
 // ---- stamps
@@ -82,11 +62,8 @@ pub fn stamp(c: &[u16]) -> [u8; 512]
     ensures { Stamped c.now (length c.now) result }
 {
     let mut m = no_stamps();
-    let mut k = 0;
-    while k < c.len() {
-        let v = c[k] as usize;
-        m[v % 512] = 1;
-        k += 1;
+    for v in c {
+        m[usize::from(*v) % 512] = 1;
     }
     m
 }
@@ -95,8 +72,7 @@ pub fn stamp(c: &[u16]) -> [u8; 512]
 fn has_stamp(m: &[u8; 512], v: Vertex) -> bool
     ensures { result ≡ has_stamp m.now v.0 }
 {
-    let v = v.0 as usize;
-    m[v % 512] != 0
+    m[usize::from(v.0) % 512] != 0
 }
 
 // Each vertex of the tetrahedron may be a corner.
@@ -104,17 +80,8 @@ fn may_be_in(labels: &[u16], e: Tet, m: &[u8; 512]) -> bool
     requires { e.0 < length labels.now / 4 }
     ensures { result ≡ all (has_stamp m.now) (row4 labels.now e.0) }
 {
-    let at = 4 * (e.0 as usize);
-    if !has_stamp(m, Vertex(labels[at])) {
-        return false;
-    }
-    if !has_stamp(m, Vertex(labels[at + 1])) {
-        return false;
-    }
-    if !has_stamp(m, Vertex(labels[at + 2])) {
-        return false;
-    }
-    has_stamp(m, Vertex(labels[at + 3]))
+    let at = 4 * usize::from(e.0);
+    labels[at..at + 4].iter().all(|v| has_stamp(m, Vertex(*v)))
 }
 
 // The tetrahedron is one of the cell's and not below lo. Most have a vertex without a stamp, which is seen soonest.
@@ -122,12 +89,5 @@ pub fn is_hit(labels: &[u16], e: Tet, lo: usize, m: &[u8; 512], c: &[u16], quads
     requires { (e.0 < length labels.now / 4) × Stamped c.now (length c.now) m.now }
     ensures { Hit (owns_by labels.now quads.now c.now e.0) lo e.0 result }
 {
-    let j = e.0 as usize;
-    if j < lo {
-        return false;
-    }
-    if !may_be_in(labels, e, m) {
-        return false;
-    }
-    belongs_to(labels, e, c, quads)
+    usize::from(e.0) >= lo && may_be_in(labels, e, m) && belongs_to(labels, e, c, quads)
 }

@@ -7,57 +7,47 @@
 // the file could not be written.
 #![tactic(auto)]
 
-ghost use Rattle.std.specs.Prelude.{◌≡◌, length};
 ghost use Rattle.packing_front.specs.between.Roomy.{Roomy};
 
-use output::{show_front, tell_refused, tell_wrong};
-use packing::Written;
+use output::{TEXT, show_front, tell_refused, tell_wrong};
 use packing_front::{COORDINATES, NUMBERS, TETS};
-use reading_lists::Said;
+use reading_lists::Sizes;
 use std::io::{Read, Write};
 
 // ---- the lists, and their file
 
-// Packs the lists of n vertices and t tetrahedra into the room and writes the file.
+// What was read of the lists: of each its front.
+#[derive(Clone, Copy)]
+struct Fronts<'a> {
+    coordinates: &'a [i32],
+    numbers: &'a [u16],
+    parts: &'a [u16],
+    ghost roomy: { Roomy coordinates.now numbers.now parts.now },
+}
+
+// Packs lists of these sizes into the room and writes the file.
 fn show_packed(
     to: &mut impl Write,
     err: &mut impl Write,
-    out: &mut [u8],
-    coordinates: &[i32],
-    numbers: &[u16],
-    parts: &[u16],
-    n: u32,
-    t: u32,
+    out: &mut [u8; TEXT],
+    lists: Fronts,
+    sizes: Sizes,
     room: &mut [u8],
-)
-    requires out_len { length out.old ≡ 65536 }
-    requires roomy { Roomy coordinates.now numbers.now parts.now }
-{
-    let answer = packing_front::write_front(coordinates, numbers, parts, n, t, room);
+) {
+    let answer = packing_front::write_front(
+        lists.coordinates,
+        lists.numbers,
+        lists.parts,
+        sizes.n,
+        sizes.t,
+        room,
+    );
     match answer {
-        Written::Whole(size) => {
+        Ok(size) => {
             show_front(to, err, room, size);
         }
-        Written::Refused(number) => tell_refused(err, out, number),
+        Err(refusal) => tell_refused(err, out, u8::from(refusal)),
     }
-}
-
-fn coordinate_room() -> [i32; COORDINATES]
-    ensures { 6657 ≡ length result }
-{
-    [0; COORDINATES]
-}
-
-fn number_room() -> [u16; NUMBERS]
-    ensures { 10652 ≡ length result }
-{
-    [0; NUMBERS]
-}
-
-fn part_room() -> [u16; TETS]
-    ensures { 2663 ≡ length result }
-{
-    [0; TETS]
 }
 
 // The job, with a text to read pieces of the input to and room for the file.
@@ -65,24 +55,21 @@ pub fn pack(
     from: &mut impl Read,
     to: &mut impl Write,
     err: &mut impl Write,
-    out: &mut [u8],
+    out: &mut [u8; TEXT],
     room: &mut [u8],
-)
-    requires { length out.old ≡ 65536 }
-{
-    let mut coordinates = coordinate_room();
-    let mut numbers = number_room();
-    let mut parts = part_room();
-    let said = input::read_text(from, out, &mut coordinates, &mut numbers, &mut parts);
-    match said {
-        Said::Lists { n, t } => {
-            show_packed(to, err, out, &coordinates, &numbers, &parts, n, t, room)
+) {
+    let mut coordinates = [0; COORDINATES];
+    let mut numbers = [0; NUMBERS];
+    let mut parts = [0; TETS];
+    match input::read_text(from, out, &mut coordinates, &mut numbers, &mut parts) {
+        Ok(sizes) => {
+            let lists = Fronts {
+                coordinates: &coordinates,
+                numbers: &numbers,
+                parts: &parts,
+            };
+            show_packed(to, err, out, lists, sizes, room)
         }
-        Said::Wrong {
-            fault,
-            line,
-            before,
-            wanted,
-        } => tell_wrong(err, out, fault, line, before, wanted),
+        Err(w) => tell_wrong(err, out, w.fault.into(), w.line, w.before, w.wanted),
     }
 }

@@ -1,12 +1,12 @@
 -- What is answered to lists that are to be packed into a room, and what the room holds afterwards. cs are the
 -- coordinates, ls the vertex numbers and ps the parts.
 -- Assumes nothing.
-use Rattle.std.specs.Prelude.{ℕ, ◌/◌, ◌%◌, Bool, not, cond, ◌&&◌, List, [], ◌∷◌, ◌++◌, eqb, ltb, ℤ, length, drop}
+use Rattle.std.specs.Prelude.{ℕ, ◌/◌, ◌%◌, Bool, not, ◌&&◌, List, [], ◌∷◌, ◌++◌, eqb, ltb, ℤ, length, drop, Result, Ok, Err}
 use Rattle.base.specs.Refusals.{Refusal, refuse, first_of}
+use Rattle.refusals.specs.declared.Refusal.{Refusal as Refused}
+use Rattle.refusals.specs.Named.{unless, number_in}
 use Rattle.arrays.specs.Refusals.{refusals}
 use Rattle.encoding.specs.File.{file_of}
-use Rattle.packing.specs.declared.Written.{Written}
-use Rattle.packing.specs.declared.Written.TheVariants.{Whole, Refused}
 
 -- ---- the refusals, in their order
 
@@ -26,19 +26,18 @@ list_refusals cs ls ps room =
 -- ---- the answer
 
 -- the first of these refusals that applies, or else that k bytes were written
-unfoldable pub written_unless : List Refusal → ℕ → Written
-written_unless rs k = cond (eqb (first_of rs) 0) (Whole k) (Refused (first_of rs))
+unfoldable pub written_unless : List Refusal → ℕ → Result ℕ Refused
+written_unless rs k = unless (first_of rs) k
 
-unfoldable pub packed : List ℤ → List ℕ → List ℕ → ℕ → Written
+unfoldable pub packed : List ℤ → List ℕ → List ℕ → ℕ → Result ℕ Refused
 packed cs ls ps room = written_unless (list_refusals cs ls ps room) (length (file_of cs ls ps))
 
 -- by its number: 0 where the file was written
-abbrev pub written_number : Written → ℕ
-written_number (Whole k) = 0
-written_number (Refused k) = k
+abbrev pub written_number : Result ℕ Refused → ℕ
+written_number a = number_in a
 
 -- ---- the room afterwards: the file f and then what was there, or all that was there
 
-abbrev pub room_after : List ℕ → Written → List ℕ → List ℕ
-room_after f (Whole k) old = f ++ drop k old
-room_after f (Refused k) old = old
+abbrev pub room_after : List ℕ → Result ℕ Refused → List ℕ → List ℕ
+room_after f (Ok k) old = f ++ drop k old
+room_after f (Err r) old = old

@@ -8,16 +8,11 @@ ghost use Rattle.encoding.specs.between.Measured.{Measured};
 ghost use Rattle.packing.specs.Packed.{lengths_fit, packed, room_after};
 ghost use Rattle.packing.specs.between.Stored.{stored_in};
 
-// The length of the file that was written, or the number of the refusal.
-#[derive(Clone, Copy)]
-pub enum Written {
-    Whole(usize),
-    Refused(u8),
-}
+use refusals::Refusal;
 
 // ---- the lengths
 
-// Not 14.
+// Not 14. In three steps: of `c % 3 == 0 && l % 4 == 0 && p == l / 4` the check does not find what each side equals.
 fn lengths_fit(c: usize, l: usize, p: usize) -> bool
     ensures { result ≡ lengths_fit c l p }
 {
@@ -35,31 +30,22 @@ fn lengths_fit(c: usize, l: usize, p: usize) -> bool
 fn is_long(c: usize, p: usize) -> bool
     ensures { result ≡ ltb 26648 (24 + 4 * c + 10 * p) }
 {
-    if 26648 < c {
-        return true;
-    }
-    if 26648 < p {
-        return true;
-    }
-    26648 < 24 + 4 * c + 10 * p
+    26648 < c || 26648 < p || 26648 < 24 + 4 * c + 10 * p
 }
 
 // ---- the file into the room
 
 // Checks the file, and copies it to the front of the room where it is right and fits.
-fn store(file: &[u8], room: &mut [u8]) -> Written
+fn store(file: &[u8], room: &mut [u8]) -> Result<usize, Refusal>
     ensures answer { result ≡ stored_in file.now (length room.old) }
     ensures room { room.new ≡ room_after file.now result room.old }
 {
-    let number = mesh::refusal_of(file);
-    if number != 0 {
-        return Written::Refused(number);
-    }
+    mesh::check(file)?;
     if room.len() < file.len() {
-        return Written::Refused(15);
+        return Err(Refusal::RoomShort);
     }
     room[..file.len()].copy_from_slice(file);
-    Written::Whole(file.len())
+    Ok(file.len())
 }
 
 // Makes the file in the lent slice, and stores it.
@@ -69,7 +55,7 @@ fn write_by(
     numbers: &[u16],
     parts: &[u16],
     room: &mut [u8],
-) -> Written
+) -> Result<usize, Refusal>
     requires { Measured coordinates.now numbers.now parts.now (length file.old) }
     ensures answer { result ≡ stored_in (file_of coordinates.now numbers.now parts.now) (length room.old) }
     ensures room { room.new
@@ -89,7 +75,12 @@ fn file_room() -> [u8; 26648]
 }
 
 // Writes the file that the lists make into the room: refusal 14, those of the file, 15, or else its length.
-pub fn write(coordinates: &[i32], numbers: &[u16], parts: &[u16], room: &mut [u8]) -> Written
+pub fn write(
+    coordinates: &[i32],
+    numbers: &[u16],
+    parts: &[u16],
+    room: &mut [u8],
+) -> Result<usize, Refusal>
     ensures answer { result ≡ packed coordinates.now numbers.now parts.now (length room.old) }
     ensures room { room.new
         ≡ room_after (file_of coordinates.now numbers.now parts.now) result room.old }
@@ -97,10 +88,10 @@ pub fn write(coordinates: &[i32], numbers: &[u16], parts: &[u16], room: &mut [u8
     let c = coordinates.len();
     let p = parts.len();
     if !lengths_fit(c, numbers.len(), p) {
-        return Written::Refused(14);
+        return Err(Refusal::ListsUnfit);
     }
     if is_long(c, p) {
-        return Written::Refused(1);
+        return Err(Refusal::Length);
     }
     let mut file = file_room();
     let size = 24 + 4 * c + 10 * p;

@@ -10,8 +10,9 @@ use lib.ListN.{length, take}
 use lib.Seq.{take_all, length-take-le}
 use Rattle.encoding.specs.File.{file_of}
 use Rattle.packing.specs.Packed.{packed, room_after}
-use Rattle.packing.specs.declared.Written.{Written}
-use Rattle.packing.specs.declared.Written.TheVariants.{Refused}
+use Rattle.std.specs.Prelude.{Result, Err}
+use Rattle.refusals.specs.declared.Refusal.{Refusal}
+use Rattle.refusals.specs.declared.Refusal.TheVariants.{Length}
 use Rattle.packing.proofs.Ways.{packed-long, fit-by}
 use Rattle.packing_front.specs.Front.{IsFront, Fronts}
 use Rattle.packing_front.specs.between.Roomy.{Roomy}
@@ -20,16 +21,16 @@ use Rattle.packing_front.specs.between.Roomy.{Roomy}
 whole : {A : Type 0} (k : ℕ) (lent xs : List A) → IsFront lent xs → length xs ≡ k → k ≤ length lent → take k lent ≡ xs
 whole k lent xs f e h = ap (λ j. take j lent) (sym e) ∙ f ∙ take_all (length lent) xs (omega arith)
 
-module _ (room : List ℕ) (r : Written) (after : List ℕ) where
+module _ (room : List ℕ) (r : Result ℕ Refusal) (after : List ℕ) where
   -- r is the answer to these lists, and the room holds `after` then
   abbrev Answers : (cs : List ℤ) (ls ps : List ℕ) → Type 0
   Answers cs ls ps = (r ≡ packed cs ls ps (length room)) × (after ≡ room_after (file_of cs ls ps) r room)
 
   -- two that are too long have one answer, and leave the room as it was
-  refused_alike : (cs ds : List ℤ) (ls ms ps qs : List ℕ) → Refused 1 ≡ packed cs ls ps (length room) → Refused 1 ≡ packed ds ms qs (length room)
+  refused_alike : (cs ds : List ℤ) (ls ms ps qs : List ℕ) → Err Length ≡ packed cs ls ps (length room) → Err Length ≡ packed ds ms qs (length room)
       → Answers cs ls ps → Answers ds ms qs
   refused_alike cs ds ls ms ps qs x y a =
-      let e : r ≡ Refused 1 = a.0 ∙ sym x in
+      let e : r ≡ Err Length = a.0 ∙ sym x in
       (e ∙ y, a.1 ∙ ap (λ w. room_after (file_of cs ls ps) w room) e ∙ sym (ap (λ w. room_after (file_of ds ms qs) w room) e))
 
   module _ (n t : ℕ) (cs₀ : List ℤ) (ls₀ ps₀ : List ℕ) (h : Roomy cs₀ ls₀ ps₀) (cs : List ℤ) (ls ps : List ℕ) (f : Fronts n t cs₀ ls₀ ps₀ cs ls ps)

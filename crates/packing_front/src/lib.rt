@@ -2,13 +2,13 @@
 // is too long, and are refused for their length alone, whatever they say: so the answer is that of the whole lists.
 #![tactic(auto)]
 
-ghost use Rattle.std.specs.Prelude.{◌≡◌, List, ℕ, min, ℤ, length};
+ghost use Rattle.std.specs.Prelude.{◌≡◌, List, ℕ, ℤ, length};
 ghost use Rattle.encoding.specs.File.{file_of};
 ghost use Rattle.packing.specs.Packed.{packed, room_after};
 ghost use Rattle.packing_front.specs.Front.{Fronts};
 ghost use Rattle.packing_front.specs.between.Roomy.{Roomy};
 
-use packing::Written;
+use refusals::Refusal;
 
 // More than the lists of any file that is accepted.
 pub const COORDINATES: usize = 3 * 2219;
@@ -16,17 +16,6 @@ pub const COORDINATES: usize = 3 * 2219;
 pub const TETS: usize = 2663;
 
 pub const NUMBERS: usize = 4 * TETS;
-
-// So many entries, or as many as there are.
-fn at_most(wanted: u64, there: usize) -> usize
-    ensures { result ≡ min wanted there }
-{
-    if wanted < there as u64 {
-        wanted as usize
-    } else {
-        there
-    }
-}
 
 // Packs the lists of n vertices and t tetrahedra of which the lent lists hold the front: all of them, or more than any
 // file that is accepted has. They are cut by these numbers and not by the lent lengths, so that what is left of lists
@@ -38,15 +27,15 @@ pub fn write_front(
     n: u32,
     t: u32,
     room: &mut [u8],
-) -> Written
+) -> Result<usize, Refusal>
     requires { Roomy coordinates.now numbers.now parts.now }
     ensures { (cs : List ℤ) (ls ps : List ℕ)
         → Fronts n t coordinates.now numbers.now parts.now cs ls ps
         → (result ≡ packed cs ls ps (length room.old))
         × (room.new ≡ room_after (file_of cs ls ps) result room.old) }
 {
-    let c = at_most(3 * (n as u64), COORDINATES);
-    let l = at_most(4 * (t as u64), NUMBERS);
-    let p = at_most(t as u64, TETS);
+    let c = (3 * n as usize).min(COORDINATES);
+    let l = (4 * t as usize).min(NUMBERS);
+    let p = (t as usize).min(TETS);
     packing::write(&coordinates[..c], &numbers[..l], &parts[..p], room)
 }

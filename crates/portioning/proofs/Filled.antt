@@ -9,7 +9,8 @@ use borrow.Author.Tests.{lt-ltb, le-ltb}
 use lib.IntN.{ℤ}
 use lib.ListN.{length, drop}
 use Rattle.space.specs.Arrays.{mesh_of}
-use Rattle.rooms.specs.declared.Filled.TheVariants.{Entries, Short}
+use Rattle.std.specs.Prelude.{Some, None}
+use Rattle.std.proofs.lemmas.Option.{none-some}
 use Rattle.rooms.specs.between.Rooms.{filled_by, laid_by}
 use Rattle.neighbours.specs.Table.{table_of}
 use Rattle.neighbours.specs.between.InLabels.{table_in}
@@ -20,21 +21,19 @@ module _ (zs : List ℤ) (ls ps : List ℕ) (n : ℕ) where
   same : length (table_in ls n) ≡ length (table_of (mesh_of zs ls ps) n)
   same = ap length (sym (table-in ls n zs ps))
 
-  pub says-short : (k : ℕ) → Short ≡ filled_by (table_in ls n) k → k < length (table_of (mesh_of zs ls ps) n)
+  pub says-short : (k : ℕ) → None ≡ filled_by (table_in ls n) k → k < length (table_of (mesh_of zs ls ps) n)
   says-short k e = elim (dec_lt k (length (table_in ls n))) [
     | yes h ↦ omega (arith, same)
     | no h ↦
-        let d : Short ≡ Entries (length (table_in ls n)) = e ∙ rw (le-ltb k (length (table_in ls n)) (omega arith)) in
-        let z : ◌≡◌ {A = ℕ} 0 1 = cc in
-        absurd (omega arith)
+        let d : None ≡ Some (length (table_in ls n)) = e ∙ rw (le-ltb k (length (table_in ls n)) (omega arith)) in
+        absurd (none-some _ d)
   ]
 
-  pub says-long : {s : ℕ} (k : ℕ) → Entries s ≡ filled_by (table_in ls n) k → length (table_of (mesh_of zs ls ps) n) ≤ k
+  pub says-long : {s : ℕ} (k : ℕ) → Some s ≡ filled_by (table_in ls n) k → length (table_of (mesh_of zs ls ps) n) ≤ k
   says-long {s} k e = elim (dec_lt k (length (table_in ls n))) [
     | yes h ↦
-        let d : Entries s ≡ Short = e ∙ rw (lt-ltb k (length (table_in ls n)) h) in
-        let z : ◌≡◌ {A = ℕ} 0 1 = cc in
-        absurd (omega arith)
+        let d : Some s ≡ None = e ∙ rw (lt-ltb k (length (table_in ls n)) h) in
+        absurd (none-some s (sym d))
     | no h ↦ omega (arith, same)
   ]
 

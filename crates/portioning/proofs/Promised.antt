@@ -15,8 +15,10 @@ use Rattle.neighbours.specs.Table.{table_of}
 use Rattle.portions.specs.Portions.{portion}
 use Rattle.rule.specs.Rule.{tet_rule}
 use Rattle.record.specs.Entries.{record_size}
-use Rattle.records.specs.declared.Answer.{Answer}
-use Rattle.records.specs.declared.Answer.TheVariants.{Refused}
+use Rattle.refusals.specs.declared.Refusal.{Refusal as Refused}
+use Rattle.refusals.specs.Named.{number_of}
+use Rattle.refusals.proofs.Named.{number_above}
+use Rattle.records.specs.Marks.{Answer, barred_by}
 use Rattle.records.specs.between.Written.{Written}
 use Rattle.records.proofs.Same.{answer-same}
 use Rattle.portioning.specs.Portion.{barred, portion_by, table_left, Promised}
@@ -55,10 +57,10 @@ module _ (rs : List Refusal) (m : Mesh) (n : ℕ) where
 
   module _ (k table room : List ℕ) where
     -- a refusal from 1 to 11
-    pub promised_refused : {table' : List ℕ} (y : ℕ) → barred rs m n (length table) (length room) ≡ y → 0 < y → table' ≡ table → Promised rs m n k table room (Refused y 0) table' room
+    pub promised_refused : {table' : List ℕ} (r : Refused) → barred rs m n (length table) (length room) ≡ number_of r → table' ≡ table → Promised rs m n k table room (barred_by r 0) table' room
     unfolding portion_by table_left
-    promised_refused y e h t =
-        let f = ne_eqb y 0 (omega arith) in
+    promised_refused r e t =
+        let f = ne_eqb (number_of r) 0 (λ z. omega (arith, number_above r)) in
         record {
           answered = rw (e, f);
           counted = rw (e, f);

@@ -9,8 +9,7 @@ use Rattle.cells.specs.Full.{full_list}
 use Rattle.neighbours.specs.Table.{table_of}
 use Rattle.portions.specs.Portions.{Portion, reply, refused, portion}
 use Rattle.rule.specs.Rule.{tet_rule}
-use Rattle.records.specs.declared.Answer.{Answer}
-use Rattle.records.specs.Marks.{says, wrote}
+use Rattle.records.specs.Marks.{Answer, says, wrote}
 
 -- of a file with the refusals rs, and with the mesh m of n vertices
 module _ (rs : List Refusal) (m : Mesh) (n : ℕ) where

@@ -1,3 +1,3 @@
-pub mod Signs
+pub mod Bounds
 pub mod Pieces
 pub mod Worked

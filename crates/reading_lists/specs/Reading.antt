@@ -1,12 +1,14 @@
 -- A text read into lent lists, and what it says.
 -- Assumes nothing.
-use Rattle.std.specs.Prelude.{ℕ, not, cond, List, [], ◌∷◌, ◌++◌, eqb, ltb, ℤ, pos, neg_ℤ, set}
+use Rattle.std.specs.Prelude.{ℕ, cond, List, [], ◌∷◌, ◌++◌, ltb, ℤ, pos, neg_ℤ, set, Option, Some, None, Result, Ok, Err}
 use Rattle.reading_words.specs.declared.Reader.{Reader}
+use Rattle.reading_words.specs.declared.Fault.{Fault}
+use Rattle.reading_words.specs.declared.Fault.TheVariants.{TooFew}
 use Rattle.reading_words.specs.declared.Spot.{Spot}
 use Rattle.reading_words.specs.declared.Spot.TheVariants.{Count, Coordinate, Label, Part, Beyond}
 use Rattle.reading_words.specs.Steps.{wanted, spot_of, next, ends_number}
-use Rattle.reading_lists.specs.declared.Said.{Said}
-use Rattle.reading_lists.specs.declared.Said.TheVariants.{Lists, Wrong}
+use Rattle.reading_lists.specs.declared.Sizes.{Sizes}
+use Rattle.reading_lists.specs.declared.Wrong.{Wrong}
 
 -- ---- the lists
 
@@ -63,8 +65,19 @@ read_all (b ∷ bs) s = read_all bs (read1 b s)
 abbrev pub read_text : List ℕ → Reading → Reading
 read_text x s = read_all (x ++ 10 ∷ []) s
 
+-- ---- what a text says
+
+abbrev pub lists : (n t : ℕ) → Result Sizes Wrong
+lists n t = Ok (record { n = n; t = t })
+
+abbrev pub wrong : (fault : Fault) → (line before wanted : ℕ) → Result Sizes Wrong
+wrong k l b w = Err (record { fault = k; line = l; before = b; wanted = w })
+
+-- with this fault, or none
+abbrev pub said_at : Reader → Option Fault → Result Sizes Wrong
+said_at r (Some k) = wrong k r.line r.count (wanted r)
+said_at r None = cond (ltb r.count (wanted r)) (wrong TooFew r.line r.count (wanted r)) (lists r.n r.t)
+
 -- what a reader behind the last line end tells
-unfoldable pub said_by : Reader → Said
-said_by r =
-    cond (not (eqb r.fault 0)) (Wrong r.fault r.line r.count (wanted r))
-    (cond (ltb r.count (wanted r)) (Wrong 1 r.line r.count (wanted r)) (Lists r.n r.t))
+unfoldable pub said_by : Reader → Result Sizes Wrong
+said_by r = said_at r r.fault

@@ -1,11 +1,14 @@
 -- Lists as plain text: first the numbers of vertices and of tetrahedra, n and t; then three coordinates a vertex; then
 -- four vertex numbers and a part a tetrahedron. A text is read byte by byte, and its first fault ends it.
 -- Assumes nothing.
-use Rattle.std.specs.Prelude.{ℕ, ◌+◌, ◌*◌, ◌-◌, ◌/◌, ◌%◌, min, Bool, false, not, cond, ◌&&◌, ◌||◌, eqb, leb, ltb}
+use Rattle.std.specs.Prelude.{ℕ, ◌+◌, ◌*◌, ◌-◌, ◌/◌, ◌%◌, min, Bool, false, not, cond, ◌&&◌, ◌||◌, eqb, leb, ltb, Option, Some, None, is_some, is_none}
 use Rattle.reading_words.specs.declared.Reader.{Reader}
+use Rattle.reading_words.specs.declared.Form.TheVariants.{Empty}
+use Rattle.reading_words.specs.declared.Fault.{Fault}
+use Rattle.reading_words.specs.declared.Fault.TheVariants.{TooFew, TooMany, NoNumber, CountRange, CoordinateRange, EntryRange}
 use Rattle.reading_words.specs.declared.Spot.{Spot}
 use Rattle.reading_words.specs.declared.Spot.TheVariants.{Count, Coordinate, Label, Part, Beyond}
-use Rattle.reading_words.specs.Words.{ends_word, formed, sized}
+use Rattle.reading_words.specs.Words.{ends_word, is_empty, is_number, formed, sized}
 
 -- ---- the places of the numbers
 
@@ -32,22 +35,31 @@ most (Label k) minus = cond minus 0 65535
 most (Part k) minus = cond minus 0 65535
 most Beyond minus = 0
 
--- ---- faults: 1 too few numbers, 2 too many, 3 no number; out of range as a count 4, as a coordinate 5, else 6
+-- ---- faults
+
+-- the number that a person is told
+abbrev pub told : Fault → ℕ
+told TooFew = 1
+told TooMany = 2
+told NoNumber = 3
+told CountRange = 4
+told CoordinateRange = 5
+told EntryRange = 6
 
 -- of a number that is out of range there
-abbrev pub range_fault : Spot → ℕ
-range_fault Count = 4
-range_fault (Coordinate k) = 5
-range_fault (Label k) = 6
-range_fault (Part k) = 6
-range_fault Beyond = 2
+abbrev pub range_fault : Spot → Fault
+range_fault Count = CountRange
+range_fault (Coordinate k) = CoordinateRange
+range_fault (Label k) = EntryRange
+range_fault (Part k) = EntryRange
+range_fault Beyond = TooMany
 
--- of the word that has been read, and 0 where it is a number in its place
-unfoldable pub word_fault : Reader → ℕ
+-- of the word that has been read, and none where it is a number in its place
+unfoldable pub word_fault : Reader → Option Fault
 word_fault r =
-    cond (leb (wanted r) r.count) 2
-    (cond (not (eqb r.form 2)) 3
-    (cond (leb r.size (most (spot_of r) r.minus)) 0 (range_fault (spot_of r))))
+    cond (leb (wanted r) r.count) (Some TooMany)
+    (cond (not (is_number r.form)) (Some NoNumber)
+    (cond (leb r.size (most (spot_of r) r.minus)) None (Some (range_fault (spot_of r)))))
 
 -- ---- a byte more
 
@@ -70,7 +82,7 @@ unfoldable pub counted : Reader → Reader
 counted r = record {
   line = r.line;
   comment = r.comment;
-  form = 0;
+  form = Empty;
   minus = false;
   size = 0;
   count = r.count + 1;
@@ -80,7 +92,7 @@ counted r = record {
 }
 
 -- at fault
-unfoldable pub faulty : Reader → ℕ → Reader
+unfoldable pub faulty : Reader → Fault → Reader
 faulty r k = record {
   line = r.line;
   comment = r.comment;
@@ -90,12 +102,17 @@ faulty r k = record {
   count = r.count;
   n = r.n;
   t = r.t;
-  fault = k;
+  fault = Some k;
 }
+
+-- behind a word of this fault
+abbrev pub settled : Reader → Option Fault → Reader
+settled r None = counted r
+settled r (Some k) = faulty r k
 
 -- behind the word, if one has begun
 unfoldable pub closed : Reader → Reader
-closed r = cond (eqb r.form 0) r (cond (eqb (word_fault r) 0) (counted r) (faulty r (word_fault r)))
+closed r = cond (is_empty r.form) r (settled r (word_fault r))
 
 -- the line behind a byte; the last number of 64 bits stays
 unfoldable pub line_behind : ℕ → ℕ → ℕ
@@ -122,15 +139,15 @@ passed r b = record {
 -- the first fault stays, and so does a place in a comment until its line ends
 unfoldable pub next : Reader → ℕ → Reader
 next r b =
-    cond (not (eqb r.fault 0)) r
+    cond (is_some r.fault) r
     (cond r.comment (cond (eqb b 10) (passed r b) r)
-    (cond (ends_word b) (cond (eqb (closed r).fault 0) (passed (closed r) b) (closed r)) (grown r b)))
+    (cond (ends_word b) (cond (is_none (closed r).fault) (passed (closed r) b) (closed r)) (grown r b)))
 
 -- the byte ends a word that is a number in its place
 unfoldable pub ends_number : Reader → ℕ → Bool
 ends_number r b =
-    eqb r.fault 0 && not r.comment && ends_word b && not (eqb r.form 0) && eqb (word_fault r) 0
+    is_none r.fault && not r.comment && ends_word b && not (is_empty r.form) && is_none (word_fault r)
 
 -- at the beginning of a text
 abbrev pub begun : Reader
-begun = record { line = 1; comment = false; form = 0; minus = false; size = 0; count = 0; n = 0; t = 0; fault = 0 }
+begun = record { line = 1; comment = false; form = Empty; minus = false; size = 0; count = 0; n = 0; t = 0; fault = None }

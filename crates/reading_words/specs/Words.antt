@@ -1,6 +1,8 @@
 -- The words of a text, byte by byte: numbers apart by blanks or line ends, and a comment from # to the end of its line.
 -- Assumes nothing.
-use Rattle.std.specs.Prelude.{ℕ, ◌+◌, ◌-◌, ◌*◌, Bool, cond, ◌&&◌, ◌||◌, eqb, leb, ltb}
+use Rattle.std.specs.Prelude.{ℕ, ◌+◌, ◌-◌, ◌*◌, Bool, true, false, cond, ◌&&◌, ◌||◌, eqb, leb, ltb}
+use Rattle.reading_words.specs.declared.Form.{Form}
+use Rattle.reading_words.specs.declared.Form.TheVariants.{Empty, Minus, Number, Other}
 
 -- tab, line end, vertical tab, form feed, carriage return or space
 unfoldable pub is_blank : ℕ → Bool
@@ -13,9 +15,25 @@ ends_word b = is_blank b || eqb b 35
 unfoldable pub is_digit : ℕ → Bool
 is_digit b = leb 48 b && leb b 57
 
--- what a word is with a byte more: 0 none yet, 1 a minus sign alone, 2 a number, 3 no number
-unfoldable pub formed : ℕ → ℕ → ℕ
-formed form b = cond (is_digit b && ltb form 3) 2 (cond (eqb form 0 && eqb b 45) 1 3)
+-- what a word is with a byte more: none yet, a minus sign alone, a number, or no number
+unfoldable pub formed : Form → ℕ → Form
+formed Empty b = cond (is_digit b) Number (cond (eqb b 45) Minus Other)
+formed Minus b = cond (is_digit b) Number Other
+formed Number b = cond (is_digit b) Number Other
+formed Other b = Other
+
+-- no word has begun
+abbrev pub is_empty : Form → Bool
+is_empty Empty = true
+is_empty Minus = false
+is_empty Number = false
+is_empty Other = false
+
+abbrev pub is_number : Form → Bool
+is_number Empty = false
+is_number Minus = false
+is_number Number = true
+is_number Other = false
 
 -- what its digits say with a byte more; past 32 bits it does not matter by how much
 unfoldable pub sized : ℕ → ℕ → ℕ

@@ -1,10 +1,47 @@
 // The words of a text of lists, read byte by byte: whether each is a number in its place.
 #![tactic(auto)]
 
-ghost use Rattle.std.specs.Prelude.{◌≡◌, cond, ◌||◌, eqb};
+ghost use Rattle.std.specs.Prelude.{◌≡◌, cond, ◌||◌, eqb, None};
 ghost use Rattle.reading_words.specs.Words.{is_blank, ends_word, is_digit, formed, sized};
-ghost use Rattle.reading_words.specs.Steps.{wanted, tet_spot, spot_of, most, range_fault, word_fault, grown, counted, closed};
+ghost use Rattle.reading_words.specs.Steps.{told, wanted, tet_spot, spot_of, most, range_fault, word_fault, grown, counted, closed};
 ghost use Rattle.reading_words.specs.Steps.{line_behind, comment_behind, passed, next, ends_number};
+
+// What the word is that has begun: nothing yet, a minus sign alone, a number, or no number.
+#[derive(Clone, Copy, PartialEq, Eq, Debug)]
+pub enum Form {
+    Empty,
+    Minus,
+    Number,
+    Other,
+}
+
+// What is wrong with a text: too few numbers, too many, or a word that is no number; or a number out of range as a count,
+// as a coordinate, or as a vertex number or a part.
+#[derive(Clone, Copy, PartialEq, Eq, Debug)]
+pub enum Fault {
+    TooFew,
+    TooMany,
+    NoNumber,
+    CountRange,
+    CoordinateRange,
+    EntryRange,
+}
+
+// The number by which a person is told of a fault.
+impl From<Fault> for u8 {
+    ghost from_gives = { λ f n. n ≡ told f };
+
+    fn from(fault: Fault) -> u8 {
+        match fault {
+            Fault::TooFew => 1,
+            Fault::TooMany => 2,
+            Fault::NoNumber => 3,
+            Fault::CountRange => 4,
+            Fault::CoordinateRange => 5,
+            Fault::EntryRange => 6,
+        }
+    }
+}
 
 // How far a text is read: the line; whether it stands in a comment; of the word that has begun its form, its sign and
 // what its digits say; how many numbers came before it, the first two of them, and the fault that was met, if any.
@@ -12,13 +49,13 @@ ghost use Rattle.reading_words.specs.Steps.{line_behind, comment_behind, passed,
 pub struct Reader {
     pub line: u64,
     pub comment: bool,
-    pub form: u8,
+    pub form: Form,
     pub minus: bool,
     pub size: u64,
     pub count: u64,
     pub n: u32,
     pub t: u32,
-    pub fault: u8,
+    pub fault: Option<Fault>,
 }
 
 // Where a number belongs: it is a count, or an entry of one of the lists, or none is wanted any more.
@@ -33,55 +70,42 @@ pub enum Spot {
 
 // ---- a byte
 
+#[tactic(auto, unfolding(crate::specs::Words::is_digit))]
 fn is_digit(b: u8) -> bool
     ensures { result ≡ is_digit b }
 {
-    if b < 48 {
-        return false;
-    }
-    b <= 57
+    b.is_ascii_digit()
 }
 
+#[tactic(auto, unfolding(crate::specs::Words::is_blank))]
 fn is_blank(b: u8) -> bool
     ensures { result ≡ is_blank b }
 {
-    if b == 32 {
-        return true;
-    }
-    if b < 9 {
-        return false;
-    }
-    b <= 13
+    b == b' ' || (b'\t'..=b'\r').contains(&b)
 }
 
+#[tactic(auto, unfolding(crate::specs::Words::ends_word))]
 fn ends_word(b: u8) -> bool
     ensures { result ≡ ends_word b }
 {
-    if is_blank(b) {
-        return true;
-    }
-    b == 35
+    is_blank(b) || b == b'#'
 }
 
 // ---- a word with a byte more
 
-fn form_with(form: u8, b: u8) -> u8
+#[tactic(auto, unfolding(crate::specs::Words::formed))]
+fn form_with(form: Form, b: u8) -> Form
     ensures { result ≡ formed form b }
 {
-    if is_digit(b) {
-        if form < 3 {
-            return 2;
-        }
-        return 3;
+    match form {
+        Form::Other => Form::Other,
+        _ if is_digit(b) => Form::Number,
+        Form::Empty if b == b'-' => Form::Minus,
+        _ => Form::Other,
     }
-    if form == 0 {
-        if b == 45 {
-            return 1;
-        }
-    }
-    3
 }
 
+#[tactic(auto, unfolding(crate::specs::Words::sized, crate::specs::Words::is_digit))]
 fn size_with(size: u64, b: u8) -> u64
     ensures { result ≡ sized size b }
 {
@@ -89,7 +113,7 @@ fn size_with(size: u64, b: u8) -> u64
         if 429496729 < size {
             return 4294967296;
         }
-        return 10 * size + (b - 48) as u64;
+        return 10 * size + u64::from(b - b'0');
     }
     size
 }
@@ -97,20 +121,19 @@ fn size_with(size: u64, b: u8) -> u64
 fn minus_with(minus: bool, b: u8) -> bool
     ensures { result ≡ (minus || eqb b 45) }
 {
-    if minus {
-        return true;
-    }
-    b == 45
+    minus || b == b'-'
 }
 
+#[tactic(auto, unfolding(crate::specs::Steps::grown))]
 fn grown(r: Reader, b: u8) -> Reader
     ensures { result ≡ grown r b }
 {
-    let mut s = r;
-    s.form = form_with(r.form, b);
-    s.minus = minus_with(r.minus, b);
-    s.size = size_with(r.size, b);
-    s
+    Reader {
+        form: form_with(r.form, b),
+        minus: minus_with(r.minus, b),
+        size: size_with(r.size, b),
+        ..r
+    }
 }
 
 // ---- the places of the numbers
@@ -119,21 +142,20 @@ fn grown(r: Reader, b: u8) -> Reader
 pub fn wanted(r: Reader) -> u64
     ensures { result ≡ wanted r }
 {
-    2 + 3 * (r.n as u64) + 5 * (r.t as u64)
+    2 + 3 * u64::from(r.n) + 5 * u64::from(r.t)
 }
 
 fn tet_spot(k: u64) -> Spot
     ensures { result ≡ tet_spot k }
 {
     let j = k / 5;
-    let i = k % 5;
-    if i < 4 {
-        Spot::Label(4 * j + i)
-    } else {
-        Spot::Part(j)
+    match k % 5 {
+        4 => Spot::Part(j),
+        i => Spot::Label(4 * j + i),
     }
 }
 
+#[tactic(auto, unfolding(crate::specs::Steps::spot_of))]
 pub fn spot_of(r: Reader) -> Spot
     ensures { result ≡ spot_of r }
 {
@@ -141,7 +163,7 @@ pub fn spot_of(r: Reader) -> Spot
     if count < 2 {
         return Spot::Count;
     }
-    let end = 2 + 3 * (r.n as u64);
+    let end = 2 + 3 * u64::from(r.n);
     if count < end {
         return Spot::Coordinate(count - 2);
     }
@@ -159,152 +181,132 @@ fn most(s: Spot, minus: bool) -> u64
     match s {
         Spot::Count => if minus { 0 } else { 4294967295 },
         Spot::Coordinate(_) => if minus { 2147483648 } else { 2147483647 },
-        Spot::Label(_) => if minus { 0 } else { 65535 },
-        Spot::Part(_) => if minus { 0 } else { 65535 },
+        Spot::Label(_) | Spot::Part(_) => if minus { 0 } else { 65535 },
         Spot::Beyond => 0,
     }
 }
 
-fn range_fault(s: Spot) -> u8
+fn range_fault(s: Spot) -> Fault
     ensures { result ≡ range_fault s }
 {
     match s {
-        Spot::Count => 4,
-        Spot::Coordinate(_) => 5,
-        Spot::Label(_) => 6,
-        Spot::Part(_) => 6,
-        Spot::Beyond => 2,
+        Spot::Count => Fault::CountRange,
+        Spot::Coordinate(_) => Fault::CoordinateRange,
+        Spot::Label(_) | Spot::Part(_) => Fault::EntryRange,
+        Spot::Beyond => Fault::TooMany,
     }
 }
 
-fn word_fault(r: Reader) -> u8
+#[tactic(auto, unfolding(crate::specs::Steps::word_fault))]
+fn word_fault(r: Reader) -> Option<Fault>
     ensures { result ≡ word_fault r }
 {
     if wanted(r) <= r.count {
-        return 2;
+        return Some(Fault::TooMany);
     }
-    if r.form != 2 {
-        return 3;
+    if r.form != Form::Number {
+        return Some(Fault::NoNumber);
     }
     let s = spot_of(r);
     if r.size <= most(s, r.minus) {
-        return 0;
+        return None;
     }
-    range_fault(s)
+    Some(range_fault(s))
 }
 
 // ---- behind a word, and behind a byte
 
 // A count with the word, if the word is the number k. A number in its place fits.
+#[tactic(auto, using(crate::proofs::Faults::right_size))]
 fn count_with(r: Reader, k: u64, old: u32) -> u32
-    requires { word_fault r ≡ 0 }
+    requires { word_fault r ≡ None }
     ensures { result ≡ cond (eqb r.count k) r.size old }
 {
-    if r.count == k {
-        return r.size as u32;
-    }
-    old
+    if r.count == k { r.size as u32 } else { old }
 }
 
+#[tactic(auto, using(crate::proofs::Faults::right_small), unfolding(crate::specs::Steps::counted))]
 fn counted(r: Reader) -> Reader
-    requires { word_fault r ≡ 0 }
+    requires { word_fault r ≡ None }
     ensures { result ≡ counted r }
 {
-    let mut s = r;
-    s.form = 0;
-    s.minus = false;
-    s.size = 0;
-    s.count = r.count + 1;
-    s.n = count_with(r, 0, r.n);
-    s.t = count_with(r, 1, r.t);
-    s
+    Reader {
+        form: Form::Empty,
+        minus: false,
+        size: 0,
+        count: r.count + 1,
+        n: count_with(r, 0, r.n),
+        t: count_with(r, 1, r.t),
+        ..r
+    }
 }
 
+#[tactic(auto, unfolding(crate::specs::Steps::closed, crate::specs::Steps::faulty))]
 fn closed(r: Reader) -> Reader
     ensures { result ≡ closed r }
 {
-    if r.form == 0 {
+    if r.form == Form::Empty {
         return r;
     }
-    let fault = word_fault(r);
-    if fault == 0 {
-        return counted(r);
+    match word_fault(r) {
+        None => counted(r),
+        fault => Reader { fault, ..r },
     }
-    let mut s = r;
-    s.fault = fault;
-    s
 }
 
+#[tactic(auto, unfolding(crate::specs::Steps::line_behind))]
 fn line_behind(line: u64, b: u8) -> u64
     ensures { result ≡ line_behind line b }
 {
-    if b != 10 {
-        return line;
-    }
-    if line < 18446744073709551615 {
-        line + 1
+    if b == b'\n' {
+        line.saturating_add(1)
     } else {
         line
     }
 }
 
+#[tactic(auto, unfolding(crate::specs::Steps::comment_behind))]
 fn comment_behind(comment: bool, b: u8) -> bool
     ensures { result ≡ comment_behind comment b }
 {
-    if b == 10 {
-        return false;
-    }
-    if comment {
-        return true;
-    }
-    b == 35
+    b != b'\n' && (comment || b == b'#')
 }
 
+#[tactic(auto, unfolding(crate::specs::Steps::passed))]
 fn passed(r: Reader, b: u8) -> Reader
     ensures { result ≡ passed r b }
 {
-    let mut s = r;
-    s.line = line_behind(r.line, b);
-    s.comment = comment_behind(r.comment, b);
-    s
+    Reader {
+        line: line_behind(r.line, b),
+        comment: comment_behind(r.comment, b),
+        ..r
+    }
 }
 
+#[tactic(auto, unfolding(crate::specs::Steps::next))]
 pub fn next(r: Reader, b: u8) -> Reader
     ensures { result ≡ next r b }
 {
-    if r.fault != 0 {
+    if r.fault.is_some() {
         return r;
     }
     if r.comment {
-        if b == 10 {
-            return passed(r, b);
-        }
-        return r;
+        return if b == b'\n' { passed(r, b) } else { r };
     }
-    if ends_word(b) {
-        let s = closed(r);
-        if s.fault == 0 {
-            return passed(s, b);
-        }
-        return s;
+    if !ends_word(b) {
+        return grown(r, b);
     }
-    grown(r, b)
+    let s = closed(r);
+    if s.fault.is_none() { passed(s, b) } else { s }
 }
 
+#[tactic(auto, unfolding(crate::specs::Steps::ends_number))]
 pub fn ends_number(r: Reader, b: u8) -> bool
     ensures { result ≡ ends_number r b }
 {
-    if r.fault != 0 {
-        return false;
-    }
-    if r.comment {
-        return false;
-    }
-    if ends_word(b) {
-        if r.form == 0 {
-            return false;
-        }
-        return word_fault(r) == 0;
-    }
-    false
+    r.fault.is_none()
+        && !r.comment
+        && ends_word(b)
+        && r.form != Form::Empty
+        && word_fault(r).is_none()
 }

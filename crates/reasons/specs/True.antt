@@ -12,7 +12,7 @@ use Rattle.least.specs.Least.{is_least}
 use Rattle.cells.specs.Cells.{inside, paired, box_at, is_tuple, has_edges, is_facet, has_faces, is_sound, sides, is_filled, is_one_part, numbers_of}
 use Rattle.cells.specs.Full.{cell, full_list}
 use Rattle.reasons.specs.declared.Finding.{Finding}
-use Rattle.reasons.specs.declared.Finding.TheVariants.{Cell, Turned, BadCorner, NoEdge, NoFace, BadBox, OpenFace, OpenTriple, TwoParts, Refused}
+use Rattle.reasons.specs.declared.Finding.TheVariants.{Cell, Turned, BadCorner, NoEdge, NoFace, BadBox, OpenFace, OpenTriple, TwoParts}
 use Rattle.reasons.specs.First.{FirstFails}
 use Rattle.reasons.specs.Reason.{is_new, faces, is_there, is_closed, others, rising, cell_by, turned_by, least_turn}
 
@@ -49,7 +49,6 @@ module _ (m : Mesh) (t : Template) (c : List ℕ) where
       Holds 4 × (is_filled m t c ≡ false) × (all (is_closed (sides m t c)) (faces t) ≡ true)
       × LeastOf (a ∷ b ∷ d ∷ []) Offends
   True TwoParts = Holds 5 × (is_one_part m t c ≡ false)
-  True (Refused r) = ⊥
 
 -- one of the two findings of a cell
 abbrev pub isACell : Finding → Bool
@@ -62,7 +61,6 @@ isACell (BadBox i) = false
 isACell (OpenFace i) = false
 isACell (OpenTriple a b c) = false
 isACell TwoParts = false
-isACell (Refused r) = false
 
 -- a cell is told of exactly where the least form stands in the full list, and there it has the tuple's tetrahedra
 pub record InTheList (m : Mesh) (t : Template) (c : List ℕ) (w : Finding) : Type 0 where

@@ -9,6 +9,7 @@ ghost use Rattle.record.specs.Marks.{end_mark, mark_of, nine};
 ghost use Rattle.record.specs.between.Heads.{cell_from, head_of};
 
 use rooms::put;
+use templates::Kind;
 
 // How many tetrahedra a record has places for.
 pub const TET_PLACES: usize = 25;
@@ -25,7 +26,7 @@ pub const SIZE: usize = TETS_AT + TET_PLACES;
 pub const UNUSED: u16 = 65535;
 
 // Where a listing stands: behind the cell of this kind with these corners, 0 where the kind has none.
-#[derive(Clone, Copy)]
+#[derive(Clone, Copy, PartialEq, Eq, Debug, Default)]
 pub struct Mark {
     pub kind: u16,
     pub a: u16,
@@ -68,35 +69,24 @@ pub fn numbers_of(m: Mark) -> [u16; 9]
 pub fn end_mark() -> Mark
     ensures { mark_of result ≡ end_mark }
 {
-    Mark {
-        kind: 0,
-        a: 0,
-        b: 0,
-        c: 0,
-        d: 0,
-        e: 0,
-        f: 0,
-        g: 0,
-        h: 0,
-    }
+    Mark::default()
 }
 
 // ---- records
 
 // A record's kind, corners and count.
+#[tactic(auto, unfolding(crate::specs::between::Heads::head_of))]
 fn head_of(mark: Mark, count: usize) -> [u16; TETS_AT]
     requires { count ≤ tet_places }
     ensures { (result ≡ head_of (mark_of mark) count) × (length result ≡ tets_at) }
 {
     let m = mark;
     let x = count as u16;
-    if m.kind == 8 {
-        return [m.kind, m.a, m.b, m.c, m.d, m.e, m.f, m.g, m.h, x];
+    match Kind::from(m.kind) {
+        Kind::Hexahedron => [m.kind, m.a, m.b, m.c, m.d, m.e, m.f, m.g, m.h, x],
+        Kind::Prism => [m.kind, m.a, m.b, m.c, m.d, m.e, m.f, UNUSED, UNUSED, x],
+        Kind::Pyramid => [m.kind, m.a, m.b, m.c, m.d, m.e, UNUSED, UNUSED, UNUSED, x],
     }
-    if m.kind == 6 {
-        return [m.kind, m.a, m.b, m.c, m.d, m.e, m.f, UNUSED, UNUSED, x];
-    }
-    [m.kind, m.a, m.b, m.c, m.d, m.e, UNUSED, UNUSED, UNUSED, x]
 }
 
 // Puts record i of a room: that of the cell which the mark is of,

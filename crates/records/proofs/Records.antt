@@ -25,30 +25,30 @@ use Rattle.portions.proofs.Loop.{portion-short, portion-none, portion-full, port
 use Rattle.rule.specs.Rule.{tet_rule}
 use Rattle.rule.proofs.Full.{lawful, full_sane}
 use Rattle.following.specs.between.Following.{Came}
-use Rattle.records.specs.declared.Answer.{Answer}
-use Rattle.records.specs.declared.Answer.TheVariants.{Refused, Given}
+use Rattle.refusals.specs.declared.Refusal.TheVariants.{NoRoom, CellTooLong}
+use Rattle.records.specs.Marks.{Answer, gave, barred_by}
 use Rattle.records.specs.declared.Stopped.{Stopped}
 use Rattle.records.specs.declared.Stopped.TheVariants.{Full, Ended, Long}
 use Rattle.records.specs.between.Written.{Written, AnswersFull, StopsAt}
 
 -- ── the cell that was found ──
 
-module _ (m : Mesh) {k j : List ℕ} {found : Bool} {f : Tets} (n : Came m k found j f) (y : found ≡ true) where
+module _ (m : Mesh) {k j : List ℕ} {f : Tets} (n : Came m k j f) where
   pub fits-few : f.count ≤ tet_places → tet_rule.fits n.cell ≡ true
-  fits-few h = le-leb (length n.cell.tets) tet_places (omega (arith, (n.tets y).count))
+  fits-few h = le-leb (length n.cell.tets) tet_places (omega (arith, n.tets.count))
 
   pub fits_many : tet_places < f.count → tet_rule.fits n.cell ≡ false
-  fits_many h = lt-leb (length n.cell.tets) tet_places (omega (arith, (n.tets y).count))
+  fits_many h = lt-leb (length n.cell.tets) tet_places (omega (arith, n.tets.count))
 
   -- its mark and its tetrahedra tell it
   pub came_told : f.count ≤ tet_places → cell_from j (take f.count f.list) ≡ n.cell
-  came_told h = ap₂ cell_from (sym (n.marked y)) (found_all (n.tets y) h) ∙ told_is n.cell (full_sane m (n.next.among y)).cornered
+  came_told h = ap₂ cell_from (sym n.marked) (found_all n.tets h) ∙ told_is n.cell (full_sane m (n.next.among refl)).cornered
 
 -- ── the loop ──
 
 module _ (m : Mesh) where
   -- no room for a record
-  pub written-short : (k old : List ℕ) → length old < tet_rule.size → Written m k old (Refused 11 0) old
+  pub written-short : (k old : List ℕ) → length old < tet_rule.size → Written m k old (barred_by NoRoom 0) old
   written-short k old h = record {
     outcome = outcome-short tet_rule (full_list m) (lawful m) k old h;
     counted = ap (λ p. length p.written) (portion-short tet_rule (full_list m) (lawful m) k (length old) h);
@@ -60,31 +60,31 @@ module _ (m : Mesh) where
 
     module _ (wide : tet_rule.size ≤ length old) {left : Bool} (n : left ≡ remains tet_rule (full_list m) j) where
       -- no cell is left
-      pub written_none : (e : Mark) → mark_of e ≡ tet_rule.end → left ≡ false → Written m k old (Given i true e) l
+      pub written_none : (e : Mark) → mark_of e ≡ tet_rule.end → left ≡ false → Written m k old (gave i true e) l
       written_none e q t = record {
         outcome = rw q (outcome-none tet_rule (full_list m) (lawful m) x wide n t);
         counted = counted_as (portion-none tet_rule (full_list m) (lawful m) wide x.under (sym n ∙ t));
       }
 
       -- a cell is left, and no room for it
-      pub written-full : (e : Mark) → mark_of e ≡ j → left ≡ true → i ≡ length old / tet_rule.size → Written m k old (Given i false e) l
+      pub written-full : (e : Mark) → mark_of e ≡ j → left ≡ true → i ≡ length old / tet_rule.size → Written m k old (gave i false e) l
       written-full e q t h = record {
         outcome = rw q (outcome-full tet_rule (full_list m) (lawful m) x wide n t h);
         counted = counted_as (portion-full tet_rule (full_list m) (lawful m) wide x.under (sym n ∙ t) (x.counted ∙ h));
       }
 
     -- a cell is left, with room for it, that no record can hold
-    pub written-long : tet_rule.size ≤ length old → {found : Bool} {j' : List ℕ} {f : Tets} (n : Came m j found j' f) → found ≡ true → i < length old / tet_rule.size → tet_places < f.count → Written m k old (Refused 12 i) l
-    written-long wide n t h o = let u = fits_many m n t o in record {
-      outcome = outcome-long tet_rule (full_list m) (lawful m) x wide n.next t h u;
-      counted = counted_as (portion-long tet_rule (full_list m) (lawful m) wide x.under (next-is tet_rule (full_list m) (lawful m) t n.next) (omega (arith, x.counted)) u);
+    pub written-long : tet_rule.size ≤ length old → {j' : List ℕ} {f : Tets} (n : Came m j j' f) → i < length old / tet_rule.size → tet_places < f.count → Written m k old (barred_by CellTooLong i) l
+    written-long wide n h o = let u = fits_many m n o in record {
+      outcome = outcome-long tet_rule (full_list m) (lawful m) x wide n.next refl h u;
+      counted = counted_as (portion-long tet_rule (full_list m) (lawful m) wide x.under (next-is tet_rule (full_list m) (lawful m) refl n.next) (omega (arith, x.counted)) u);
     }
 
     -- one more record
-    pub come_on : {found : Bool} {j' l' : List ℕ} {f : Tets} (n : Came m j found j' f) → found ≡ true → i < length old / tet_rule.size → f.count ≤ tet_places → Laid (i * tet_rule.size) (entries (cell_from j' (take f.count f.list))) l l' → Come tet_rule (full_list m) k old j' (i + 1) l'
-    come_on {l' = l'} n y h o d =
-        subst (λ q. Come tet_rule (full_list m) k old q (i + 1) l') (n.marked y)
-        (come_step tet_rule (full_list m) (lawful m) x n.next y h (fits-few m n y o) (laid_as d (ap entries (came_told m n y o))))
+    pub come_on : {j' l' : List ℕ} {f : Tets} (n : Came m j j' f) → i < length old / tet_rule.size → f.count ≤ tet_places → Laid (i * tet_rule.size) (entries (cell_from j' (take f.count f.list))) l l' → Come tet_rule (full_list m) k old j' (i + 1) l'
+    come_on {l' = l'} n h o d =
+        subst (λ q. Come tet_rule (full_list m) k old q (i + 1) l') n.marked
+        (come_step tet_rule (full_list m) (lawful m) x n.next refl h (fits-few m n o) (laid_as d (ap entries (came_told m n o))))
 
 -- ── the answer ──
 
@@ -100,5 +100,5 @@ module _ (m : Mesh) {k old l : List ℕ} {p : Stopped} (x : StopsAt m k old p l)
   filled-end e f =
       subst (λ z. Written m k old z l) (sym (f.ends refl).0) (subst (λ q. StopsAt m k old q l) e x f.mark (f.ends refl).1)
 
-  pub filled-long : p ≡ Long i → Written m k old (Refused 12 i) l
+  pub filled-long : p ≡ Long i → Written m k old (barred_by CellTooLong i) l
   filled-long e = subst (λ q. StopsAt m k old q l) e x

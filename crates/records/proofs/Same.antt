@@ -11,9 +11,11 @@ use Rattle.portions.specs.Portions as portions
 use Rattle.portions.specs.Portions.{refused, given}
 use Rattle.record.specs.declared.Mark.{Mark}
 use Rattle.record.specs.Marks.{mark_of}
-use Rattle.records.specs.declared.Answer.{Answer}
-use Rattle.records.specs.declared.Answer.TheVariants.{Refused, Given}
-use Rattle.records.specs.Marks.{says, wrote}
+use Rattle.std.specs.Prelude.{Result, Ok, Err, IsErrAnd}
+use Rattle.refusals.specs.declared.Refusal.{Refusal}
+use Rattle.refusals.proofs.Named.{name_same}
+use Rattle.records.specs.Marks.{Answer, barred_by, says, wrote}
+use Rattle.records.specs.declared.Refused.{Refused}
 use Rattle.records.specs.between.Written.{Written}
 
 -- the parts of what is said; a default where it has none
@@ -42,10 +44,22 @@ mark-same m k e = ap mark_by e
 
 -- an answer by what it says and how many records it tells
 pub answer-same : (a b : Answer) → says a ≡ says b → wrote a ≡ wrote b → a ≡ b
-answer-same (Refused j v) (Refused k w) e n = ap (λ s. Refused (refusal s) v) e ∙ ap (Refused k) n
-answer-same (Refused j v) (Given c o k) e n = absurd (true≢false (sym (ap is_given e)))
-answer-same (Given c o k) (Refused j v) e n = absurd (true≢false (ap is_given e))
-answer-same (Given c o k) (Given d r j) e n = ap (λ i. Given i o k) n ∙ ap (λ b. Given d b k) (ap is_none e) ∙ ap (Given d r) (mark-same k j (ap mark_said e))
+answer-same (Err x) (Err y) e n = let r = name_same x.refusal y.refusal (ap refusal e) in λ i. Err (record { refusal = r i; written = n i })
+answer-same (Err x) (Ok g) e n = absurd (true≢false (sym (ap is_given e)))
+answer-same (Ok g) (Err x) e n = absurd (true≢false (ap is_given e))
+answer-same (Ok g) (Ok h) e n =
+    let b = ap is_none e in
+    let k = mark-same g.mark h.mark (ap mark_said e) in
+    λ i. Ok (record { count = n i; none_remain = b i; mark = k i })
 
 pub written_one : {m : Mesh} {k room : List ℕ} {a b : Answer} {left right : List ℕ} → Written m k room a left → Written m k room b right → (a ≡ b) × (left ≡ right)
 written_one {a = a} {b = b} x y = (answer-same a b (x.outcome.answered ∙ sym y.outcome.answered) (omega (arith, x.counted, y.counted)), x.outcome.stored.content ∙ sym y.outcome.stored.content)
+
+-- a refusal before which nothing was written
+pub refused_is : {r : Refusal} {n : ℕ} (x : Refused) → x.refusal ≡ r → x.written ≡ n → Err x ≡ barred_by r n
+refused_is x p q = λ i. Err (record { refusal = p i; written = q i })
+
+-- `?` hands a refusal on with nothing written
+pub refused_on : {A : Type 0} (x : Result A Refused) (r : Refusal) → IsErrAnd x (λ y. (y.refusal ≡ r) × (y.written ≡ 0)) → x ≡ Err (record { refusal = r; written = 0 })
+refused_on (Ok a) r h = absurd h
+refused_on (Err y) r h = λ i. Err (record { refusal = h.0 i; written = h.1 i })

@@ -1,37 +1,42 @@
 // The loop that writes the records of the cells after a mark into a lent room.
 #![tactic(auto)]
 
-ghost use Rattle.std.specs.Prelude.{◌≡◌, ◌/◌, ◌≤◌, length};
+ghost use Rattle.std.specs.Prelude.{◌≡◌, ◌/◌, ◌≤◌, length, Ok};
 ghost use Rattle.space.specs.Arrays.{mesh_of};
 ghost use Rattle.record.specs.Entries.{record_size};
 ghost use Rattle.record.specs.Marks.{mark_of};
-ghost use Rattle.levels.specs.between.Levels.{levels};
-ghost use Rattle.search.specs.between.Ready.{Ready};
-ghost use Rattle.records.specs.declared.Answer.TheVariants.{Refused};
 ghost use Rattle.records.specs.between.Written.{Written, AnswersFull, StopsAt};
 
 use following::{is_any_left, next_cell};
 use record::{Mark, SIZE, TET_PLACES, end_mark, put_record};
+use refusals::Refusal;
+use search::Ground;
 
-// A refusal by its number, with how many records were written before it:
-// only 12, where the next cell has more tetrahedra than a record can hold, comes after any.
+// What a call gave: so many records, whether no cell remains, and the mark to go on from.
 #[derive(Clone, Copy)]
-pub enum Answer {
-    Refused {
-        number: u8,
-        written: usize,
-    },
-    Given {
-        count: usize,
-        none_remain: bool,
-        mark: Mark,
-    },
+pub struct Given {
+    pub count: usize,
+    pub none_remain: bool,
+    pub mark: Mark,
 }
 
-fn refused(number: u8, written: usize) -> Answer
-    ensures { result ≡ Refused number written }
-{
-    Answer::Refused { number, written }
+// A refusal, with how many records were written before it:
+// only 12, where the next cell has more tetrahedra than a record can hold, comes after any.
+#[derive(Clone, Copy)]
+pub struct Refused {
+    pub refusal: Refusal,
+    pub written: usize,
+}
+
+impl From<Refusal> for Refused {
+    ghost from_gives = { λ r x. (x.refusal ≡ r) × (x.written ≡ 0) };
+
+    fn from(refusal: Refusal) -> Refused {
+        Refused {
+            refusal,
+            written: 0,
+        }
+    }
 }
 
 // How far the records came, and how many there are: the room is full, no cell is left,
@@ -44,45 +49,17 @@ pub enum Stopped {
 }
 
 // Writes the records of the cells after the mark, as many as the room holds.
-fn write_up(
-    tables: &[u8],
-    coords: &[i64],
-    labels: &[u16],
-    parts: &[u16],
-    n: usize,
-    offsets: &[u16],
-    entries: &[u16],
-    hints: &[u8],
-    table: &[u16],
-    mark: Mark,
-    records: &mut [u16],
-) -> Stopped
-    requires tables_value { tables.now ≡ levels }
-    requires ready { Ready coords.now labels.now parts.now n offsets.now entries.now hints.now table.now }
-    requires record_size_in_bounds { record_size ≤ length records.old }
-    ensures { StopsAt (mesh_of coords.now labels.now parts.now)
+fn write_up(ground: &Ground<'_, '_>, mark: Mark, records: &mut [u16]) -> Stopped
+    requires { record_size ≤ length records.old }
+    ensures { StopsAt (mesh_of ground.now.mesh.coords.now ground.now.mesh.index.labels.now ground.now.mesh.parts.now)
         (mark_of mark) records.old result records.new }
 {
     let most = records.len() / SIZE;
-    let mut i: usize = 0;
     let mut k = mark;
-    while i < most {
-        let s = next_cell(
-            tables,
-            coords,
-            labels,
-            parts,
-            n,
-            offsets,
-            entries,
-            hints,
-            table,
-            k,
-            0 < i,
-        );
-        if !s.found {
+    for i in 0..most {
+        let Some(s) = next_cell(ground, k, 0 < i) else {
             return Stopped::Ended { count: i };
-        }
+        };
         let c = s.mark;
         let tets = s.tets;
         if TET_PLACES < tets.count {
@@ -90,24 +67,26 @@ fn write_up(
         }
         let list = tets.list;
         put_record(records, i, c, tets.count, list);
-        i += 1;
         k = c;
     }
-    Stopped::Full { count: i, mark: k }
+    Stopped::Full {
+        count: most,
+        mark: k,
+    }
 }
 
 // The answer for a room that was filled up to a mark: the end where no cell is left behind it.
-fn answer_full(count: usize, left: bool, mark: Mark) -> Answer
-    ensures { AnswersFull count left mark result }
+fn answer_full(count: usize, left: bool, mark: Mark) -> Given
+    ensures { AnswersFull count left mark (Ok result) }
 {
     if left {
-        Answer::Given {
+        Given {
             count,
             none_remain: false,
             mark,
         }
     } else {
-        Answer::Given {
+        Given {
             count,
             none_remain: true,
             mark: end_mark(),
@@ -118,37 +97,25 @@ fn answer_full(count: usize, left: bool, mark: Mark) -> Answer
 // Writes the records of the cells after the mark, as many as the room holds.
 // Where the room is full it is asked whether any cell is left: so the end is told with the last cell.
 pub fn write_cells(
-    tables: &[u8],
-    coords: &[i64],
-    labels: &[u16],
-    parts: &[u16],
-    n: usize,
-    offsets: &[u16],
-    entries: &[u16],
-    hints: &[u8],
-    table: &[u16],
+    ground: &Ground<'_, '_>,
     mark: Mark,
     records: &mut [u16],
-) -> Answer
-    requires tables_value { tables.now ≡ levels }
-    requires ready { Ready coords.now labels.now parts.now n offsets.now entries.now hints.now table.now }
-    ensures { Written (mesh_of coords.now labels.now parts.now)
+) -> Result<Given, Refused>
+    ensures { Written (mesh_of ground.now.mesh.coords.now ground.now.mesh.index.labels.now ground.now.mesh.parts.now)
         (mark_of mark) records.old result records.new }
 {
     if records.len() < SIZE {
-        return refused(11, 0);
+        return Err(Refused::from(Refusal::NoRoom));
     }
-    let far = write_up(
-        tables, coords, labels, parts, n, offsets, entries, hints, table, mark, records,
-    );
-    match far {
+    match write_up(ground, mark, records) {
         Stopped::Full { count, mark } => {
-            let left = is_any_left(
-                tables, coords, labels, parts, n, offsets, entries, hints, table, mark,
-            );
-            answer_full(count, left, mark)
+            let left = is_any_left(ground, mark);
+            Ok(answer_full(count, left, mark))
         }
-        Stopped::Ended { count } => answer_full(count, false, mark),
-        Stopped::Long { count } => refused(12, count),
+        Stopped::Ended { count } => Ok(answer_full(count, false, mark)),
+        Stopped::Long { count } => Err(Refused {
+            refusal: Refusal::CellTooLong,
+            written: count,
+        }),
     }
 }

@@ -5,46 +5,28 @@ ghost use Rattle.std.specs.Prelude.{◌≡◌, ◌++◌, cond, ◌+◌, ◌≤�
 ghost use Rattle.base.specs.Laid.{Laid};
 ghost use Rattle.rooms.specs.between.Rooms.{filled_by, laid_by};
 
-// How many entries were wanted, where there is room for them.
-#[derive(Clone, Copy)]
-pub enum Filled {
-    Entries(usize),
-    Short,
-}
-
 // Writes a list from a place on.
 pub fn put(room: &mut [u16], from: usize, list: &[u16])
     requires { from + length list.now ≤ length room.old }
     ensures { Laid from list.now room.old room.new }
 {
-    let mut i = 0;
-    while i < list.len() {
-        room[from + i] = list[i];
-        i += 1;
-    }
+    room[from..from + list.len()].copy_from_slice(list);
 }
 
-// Writes two lists, one behind the other, from the start on.
-fn put_both(first: &[u16], second: &[u16], room: &mut [u16])
-    requires { length first.now + length second.now ≤ length room.old }
-    ensures { Laid 0 (first.now ++ second.now) room.old room.new }
-{
-    put(room, 0, first);
-    put(room, first.len(), second);
-}
-
-// Whether the room is enough for two lists, one behind the other; they are written where it is, if they are wanted.
-pub fn put_if(first: &[u16], second: &[u16], wanted: bool, room: &mut [u16]) -> Filled
+// How many entries two lists have, one behind the other, where the room is enough for them;
+// they are written where it is, if they are wanted (the flag is of the promise: refusal 10 is told though 11 follows).
+pub fn put_if(first: &[u16], second: &[u16], wanted: bool, room: &mut [u16]) -> Option<usize>
     ensures answer { result ≡ filled_by (first.now ++ second.now) (length room.old) }
     ensures content { room.new
         ≡ cond wanted (laid_by (first.now ++ second.now) room.old) room.old }
 {
     let size = first.len() + second.len();
     if room.len() < size {
-        return Filled::Short;
+        return None;
     }
     if wanted {
-        put_both(first, second, room);
+        put(room, 0, first);
+        put(room, first.len(), second);
     }
-    Filled::Entries(size)
+    Some(size)
 }

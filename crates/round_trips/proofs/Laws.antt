@@ -23,8 +23,9 @@ use Rattle.arrays.proofs.Accepted.{accepted_gives}
 use Rattle.encoding.specs.File.{file_of}
 use Rattle.encoding.proofs.Lengths.{file-long}
 use Rattle.packing.specs.Packed.{lengths_fit, room_refusals, list_refusals, written_unless, packed, room_after}
-use Rattle.packing.specs.declared.Written.{Written}
-use Rattle.packing.specs.declared.Written.TheVariants.{Whole, Refused}
+use Rattle.std.specs.Prelude.{Result, Ok}
+use Rattle.refusals.specs.declared.Refusal.{Refusal as Refused}
+use Rattle.refusals.proofs.Named.{ok_says}
 use Rattle.packing.proofs.Ways.{stored-whole, refused-length, packed-by, fit-by}
 use Rattle.round_trips.specs.Inverse.{AllBelow, AllSigned, Listed, WrittenWhole, Packs, Inverse}
 use Rattle.round_trips.proofs.Bytes.{file-below}
@@ -41,14 +42,10 @@ only_one f g a b p q x y z =
 
 -- ---- what a file that was written tells
 
--- nothing is refused where `Whole` is answered, and its number is the length
-whole_says : (rs : List Refusal) (s k : ℕ) → written_unless rs s ≡ Whole k → (first_of rs ≡ 0) × (k ≡ s)
+-- nothing is refused where `Ok` is answered, and its number is the length
+whole_says : (rs : List Refusal) (s k : ℕ) → written_unless rs s ≡ Ok k → (first_of rs ≡ 0) × (k ≡ s)
 unfolding written_unless
-whole_says rs s k e = go (eqb (first_of rs) 0) refl e
-  where
-    go : (b : Bool) → eqb (first_of rs) 0 ≡ b → cond b (Whole s) (Refused (first_of rs)) ≡ Whole k → (first_of rs ≡ 0) × (k ≡ s)
-    go true q d = (eqb-true (first_of rs) 0 q, (cc))
-    go false q d = let n : ◌≡◌ {A = ℕ} 0 1 = cc in absurd (omega arith)
+whole_says rs s k e = let o = ok_says e in (o.0, sym o.1)
 
 -- two lists of refusals laid end to end, none of which applies
 none_both : (xs ys : List Refusal) → numbered xs ≡ true → first_of (xs ++ ys) ≡ 0 → (first_of xs ≡ 0) × (first_of ys ≡ 0)
@@ -62,7 +59,7 @@ unfolding refusal
 folded_back f e = e
 
 kept_by : (cs : List ℤ) (ls ps : List ℕ) (room k : ℕ) → AllSigned cs → AllBelow 65536 ls → AllBelow 65536 ps
-    → packed cs ls ps room ≡ Whole k → WrittenWhole cs ls ps room k
+    → packed cs ls ps room ≡ Ok k → WrittenWhole cs ls ps room k
 unfolding packed
 kept_by cs ls ps room k a b d e =
     let f = file_of cs ls ps in
@@ -123,7 +120,7 @@ said f h e =
     }
 
 packed-again : (f : List ℕ) (room : ℕ) → AllBelow 256 f → refusal f ≡ 0 → length f ≤ room
-    → packed (coords_of f) (labels_of f) (parts_of f) room ≡ Whole (length f)
+    → packed (coords_of f) (labels_of f) (parts_of f) room ≡ Ok (length f)
 packed-again f room h e g =
     sym (packed-by (coords_of f) (labels_of f) (parts_of f) room (lengths-fit f) (rw (write-back f h e) (stored-whole f room e g)))
 
@@ -167,7 +164,7 @@ never_3 cs ls ps e = let f = file_of cs ls ps in go (length_right f) refl e (tol
 
 -- ---- two outcomes
 
-one-outcome : (cs : List ℤ) (ls ps room : List ℕ) (a b : Written) (r s : List ℕ) → Packs cs ls ps room a r → Packs cs ls ps room b s → (a ≡ b) × (r ≡ s)
+one-outcome : (cs : List ℤ) (ls ps room : List ℕ) (a b : Result ℕ Refused) (r s : List ℕ) → Packs cs ls ps room a r → Packs cs ls ps room b s → (a ≡ b) × (r ≡ s)
 one-outcome cs ls ps room a b r s p q =
     let e = p.answered ∙ sym q.answered in
     (e, p.stored ∙ ap (λ x. room_after (file_of cs ls ps) x room) e ∙ sym q.stored)

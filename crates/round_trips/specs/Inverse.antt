@@ -1,13 +1,12 @@
 -- What writing and reading promise of each other. cs are coordinates, ls vertex numbers and ps parts.
 -- Assumes nothing.
-use Rattle.std.specs.Prelude.{ℕ, ◌/◌, ◌≤◌, ◌<◌, ◌≡◌, true, List, ℤ, pos, length, get_or}
+use Rattle.std.specs.Prelude.{ℕ, ◌/◌, ◌≤◌, ◌<◌, ◌≡◌, true, List, ℤ, pos, length, get_or, Result, Ok}
 use Rattle.std.specs.Int.Signed.{mag}
 use Rattle.layout.specs.Layout.{vertices, tets, coords_of, labels_of, parts_of}
 use Rattle.arrays.specs.Refusals.{refusal}
 use Rattle.encoding.specs.File.{file_of}
 use Rattle.packing.specs.Packed.{lengths_fit, packed, room_after}
-use Rattle.packing.specs.declared.Written.{Written}
-use Rattle.packing.specs.declared.Written.TheVariants.{Whole}
+use Rattle.refusals.specs.declared.Refusal.{Refusal}
 
 -- ---- what the type of a slice tells of its entries
 
@@ -36,7 +35,7 @@ pub record Says (f : List ℕ) (cs : List ℤ) (ls ps : List ℕ) : Type 0 where
   pub numbers : labels_of f ≡ ls
   pub parts : parts_of f ≡ ps
 
--- what the answer `Whole k` tells of lists and a room of so many bytes
+-- what the answer `Ok k` tells of lists and a room of so many bytes
 pub record WrittenWhole (cs : List ℤ) (ls ps : List ℕ) (room k : ℕ) : Type 0 where
   pub size : k ≡ length (file_of cs ls ps)
   pub fits : k ≤ room
@@ -44,7 +43,7 @@ pub record WrittenWhole (cs : List ℤ) (ls ps : List ℕ) (room k : ℕ) : Type
   pub says : Says (file_of cs ls ps) cs ls ps
 
 -- what a call of `write` promises: its answer, and what the room holds afterwards
-pub record Packs (cs : List ℤ) (ls ps room : List ℕ) (a : Written) (room' : List ℕ) : Type 0 where
+pub record Packs (cs : List ℤ) (ls ps room : List ℕ) (a : Result ℕ Refusal) (room' : List ℕ) : Type 0 where
   pub answered : a ≡ packed cs ls ps (length room)
   pub stored : room' ≡ room_after (file_of cs ls ps) a room
 
@@ -62,13 +61,13 @@ pub record Inverse : Type 0 where
       → coords_of f ≡ coords_of g → labels_of f ≡ labels_of g → parts_of f ≡ parts_of g → f ≡ g
   -- a file that was written holds what was given, and its length is told
   pub kept : (cs : List ℤ) (ls ps : List ℕ) (room k : ℕ) → AllSigned cs → AllBelow 65536 ls → AllBelow 65536 ps
-      → packed cs ls ps room ≡ Whole k → WrittenWhole cs ls ps room k
+      → packed cs ls ps room ≡ Ok k → WrittenWhole cs ls ps room k
   -- what an accepted file says is written again wherever there is room for the file
   pub again : (f : List ℕ) (room : ℕ) → AllBelow 256 f → refusal f ≡ 0 → length f ≤ room
-      → packed (coords_of f) (labels_of f) (parts_of f) room ≡ Whole (length f)
+      → packed (coords_of f) (labels_of f) (parts_of f) room ≡ Ok (length f)
   -- lists make no file with a wrong layout, so that 3 is never answered
   pub framed : (cs : List ℤ) (ls ps : List ℕ) → refusal (file_of cs ls ps) ≡ 3 → ⊥
   -- what lists make are bytes
   pub bytes : (cs : List ℤ) (ls ps : List ℕ) → AllBelow 256 (file_of cs ls ps)
   -- two outcomes that a call permits are one
-  pub one : (cs : List ℤ) (ls ps room : List ℕ) (a b : Written) (r s : List ℕ) → Packs cs ls ps room a r → Packs cs ls ps room b s → (a ≡ b) × (r ≡ s)
+  pub one : (cs : List ℤ) (ls ps room : List ℕ) (a b : Result ℕ Refusal) (r s : List ℕ) → Packs cs ls ps room a r → Packs cs ls ps room b s → (a ≡ b) × (r ≡ s)

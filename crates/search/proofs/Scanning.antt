@@ -3,7 +3,7 @@
 use Prim.Native.Nat.{ℕ, ◌+◌, ◌-◌, ◌/◌, ◌<◌}
 use mathlib.Core.Path.{◌≡◌, refl, sym, ◌∙◌, ap, subst}
 use mathlib.Core.Logic.{◌⊎◌, inl, inr}
-use mathlib.Core.Bool.{true}
+use mathlib.Core.Bool.{Bool, true, true≢false, false}
 use mathlib.Core.List.{List, [], ◌∷◌, Memᴰ}
 use native.Mathlib.Omega.{arith}
 use native.Mathlib.Decide.{dec_lt}
@@ -19,7 +19,7 @@ use Rattle.templates.specs.Tables.{template_of}
 use Rattle.tets_around.specs.declared.Row.{Row}
 use Rattle.neighbours.specs.between.Reading.{row_in, entries_of, InRow}
 use Rattle.neighbours.proofs.Reading.{tabled-rowed, row_of_in, entries-rise, entries_have}
-use Rattle.portions.specs.between.Tuples.{Agree, Skips}
+use Rattle.portions.specs.between.Tuples.{Agree, Skips, LeastAfter}
 use Rattle.rule.specs.between.Leaf.{is_leaf}
 use Rattle.levels.specs.between.Levels.{base, joined, also, third}
 use Rattle.levels.specs.declared.Place.{Place}
@@ -44,7 +44,7 @@ module _ {zs : List ℤ} {ls ps : List ℕ} {n : ℕ} {os es hs table : List ℕ
   sought_of = record {
     close = g.arrays.close;
     counted = g.arrays.counted;
-    lent = record { few = g.arrays.few; rowed = tabled-rowed g.tabled; sized = g.hinted.size };
+    lent = record { few = g.arrays.few; rowed = tabled-rowed g.tabled };
     served = λ v. let w = row_of_in g.tabled v refl in record { inside = w.inside; rises = entries-rise w };
   }
 
@@ -144,3 +144,7 @@ module _ {zs : List ℤ} {n : ℕ} {hs table : List ℕ} (g : Sought zs n hs tab
   pub laws_of : (ls ps : List ℕ) → Laws (template_of k).corners n (is_leaf (mesh_of zs ls ps) (template_of k))
   laws_of ls ps =
       subst (λ i. Laws (template_of k).corners i (is_leaf (mesh_of zs ls ps) (template_of k))) (points_are g ls ps) (leaf_laws (mesh_of zs ls ps) (template_of k) (flat-at k))
+
+-- where there is none, it is no matter which tuple is named beside
+pub least_none : {k : ℕ} {leaf : List ℕ → Bool} {m r s : List ℕ} → LeastAfter k leaf m false r → LeastAfter k leaf m false s
+least_none x = record { holds = λ e. absurd (true≢false (sym e)); after = λ e. absurd (true≢false (sym e)); least = λ e. absurd (true≢false (sym e)); none = x.none }

@@ -1,8 +1,6 @@
 -- The box product of four points, and the bound on a coordinate.
-use Rattle.std.specs.Prelude.{ℕ, zero, suc, Bool, true, false, cond, ◌&&◌, leb, ℤ, pos, negsuc, nat_abs, ◌+ℤ◌, ◌-ℤ◌, ◌*ℤ◌}
+use Rattle.std.specs.Prelude.{ℕ, zero, suc, Bool, true, false, cond, ◌&&◌, leb, ℤ, pos, negsuc, nat_abs, ◌+ℤ◌, ◌-ℤ◌, ◌*ℤ◌, Option, Some, None}
 use Rattle.space.specs.declared.Point.{Point}
-use Rattle.space.specs.declared.Boxed.{Boxed}
-use Rattle.space.specs.declared.Boxed.TheVariants.{Value, Refused}
 
 -- from -50,000 to 50,000
 abbrev pub near : ℤ → Bool
@@ -32,11 +30,11 @@ is_above0 (pos (suc k)) = true
 is_above0 (negsuc k) = false
 
 -- what is answered for four points given outright
-unfoldable pub boxed : Point → Point → Point → Point → Boxed
+unfoldable pub boxed : Point → Point → Point → Point → Option ℤ
 boxed p q r s =
-    cond (near_point p && near_point q && near_point r && near_point s) (Value (box p q r s)) Refused
+    cond (near_point p && near_point q && near_point r && near_point s) (Some (box p q r s)) None
 
 -- the number of that answer's refusal, and 0 for a value
-abbrev pub box_number : Boxed → ℕ
-box_number (Value b) = 0
-box_number Refused = 4
+abbrev pub box_number : Option ℤ → ℕ
+box_number (Some b) = 0
+box_number None = 4

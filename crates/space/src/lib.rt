@@ -7,55 +7,35 @@ ghost use Rattle.base.specs.between.Size.{Small};
 ghost use Rattle.space.specs.Box.{near, near_point, from_to, det, box, boxed};
 ghost use Rattle.space.specs.between.Working.{Sized};
 ghost use Rattle.space.specs.Mesh.{point};
-ghost use Rattle.space.specs.between.Hash.{odd, hash3};
+ghost use Rattle.space.specs.between.Hash.{hash3};
 ghost use Rattle.space.specs.Arrays.{row4, mesh_of};
 ghost use Rattle.space.specs.between.Working.{Close};
 
 // The number of a vertex, and the number of a tetrahedron.
-#[derive(Clone, Copy)]
+#[derive(Clone, Copy, PartialEq, Eq, PartialOrd, Ord, Debug)]
 pub struct Vertex(pub u16);
 
-#[derive(Clone, Copy)]
+#[derive(Clone, Copy, PartialEq, Eq, PartialOrd, Ord, Debug)]
 pub struct Tet(pub u16);
 
-#[derive(Clone, Copy)]
+#[derive(Clone, Copy, PartialEq, Eq, PartialOrd, Ord, Debug)]
 pub struct Point {
     pub x: i64,
     pub y: i64,
     pub z: i64,
 }
 
-#[derive(Clone, Copy)]
-pub enum Boxed {
-    Value(i64),
-    Refused,
-}
-
 pub fn is_near(x: i64) -> bool
     ensures { result ≡ near x }
 {
-    if x < -50000 {
-        return false;
-    }
-    x <= 50000
+    (-50000..=50000).contains(&x)
 }
 
+#[tactic(auto, unfolding(crate::specs::Box::near_point))]
 fn is_near_point(p: Point) -> bool
     ensures { result ≡ near_point p }
 {
-    if is_near(p.x) {
-        if is_near(p.y) { is_near(p.z) } else { false }
-    } else {
-        false
-    }
-}
-
-// b - a, of two coordinates in bounds.
-fn diff(a: i64, b: i64) -> i64
-    requires { Small 50000 a × Small 50000 b }
-    ensures { result ≡ b -ℤ a }
-{
-    b - a
+    is_near(p.x) && is_near(p.y) && is_near(p.z)
 }
 
 // q - p.
@@ -64,9 +44,9 @@ fn from_to(p: Point, q: Point) -> Point
     ensures { result ≡ from_to p q }
 {
     Point {
-        x: diff(p.x, q.x),
-        y: diff(p.y, q.y),
-        z: diff(p.z, q.z),
+        x: q.x - p.x,
+        y: q.y - p.y,
+        z: q.z - p.z,
     }
 }
 
@@ -91,13 +71,13 @@ pub fn volume(p: Point, q: Point, r: Point, s: Point) -> i64
 }
 
 // box(p; q, r, s), or a refusal where a coordinate is out of bounds.
-pub fn box_product(p: Point, q: Point, r: Point, s: Point) -> Boxed
+pub fn box_product(p: Point, q: Point, r: Point, s: Point) -> Option<i64>
     ensures { result ≡ boxed p q r s }
 {
     if is_near_point(p) && is_near_point(q) && is_near_point(r) && is_near_point(s) {
-        Boxed::Value(volume(p, q, r, s))
+        Some(volume(p, q, r, s))
     } else {
-        Boxed::Refused
+        None
     }
 }
 
@@ -127,60 +107,32 @@ pub fn tet_has(labels: &[u16], e: Tet, v: Vertex) -> bool
 {
     let at = 4 * (e.0 as usize);
     let x = v.0;
-    if x == labels[at] {
-        return true;
-    }
-    if x == labels[at + 1] {
-        return true;
-    }
-    if x == labels[at + 2] {
-        return true;
-    }
-    x == labels[at + 3]
+    x == labels[at] || x == labels[at + 1] || x == labels[at + 2] || x == labels[at + 3]
 }
 
+// Two vertices, and three: docs/PROMISES.md names the three functions, and a list of vertices would cost its callers.
 pub fn tet_has2(labels: &[u16], e: Tet, u: Vertex, v: Vertex) -> bool
     requires { e.0 < length labels.now / 4 }
     ensures { result ≡ all (λ x. is_in x (row4 labels.now e.0)) (u.0 ∷ v.0 ∷ []) }
 {
-    if !tet_has(labels, e, u) {
-        return false;
-    }
-    tet_has(labels, e, v)
+    tet_has(labels, e, u) && tet_has(labels, e, v)
 }
 
 pub fn tet_has3(labels: &[u16], e: Tet, u: Vertex, v: Vertex, w: Vertex) -> bool
     requires { e.0 < length labels.now / 4 }
     ensures { result ≡ all (λ x. is_in x (row4 labels.now e.0)) (u.0 ∷ v.0 ∷ w.0 ∷ []) }
 {
-    if !tet_has(labels, e, u) {
-        return false;
-    }
-    tet_has2(labels, e, v, w)
+    tet_has(labels, e, u) && tet_has2(labels, e, v, w)
 }
 
 // ---- a number for three vertices
 
-fn odd(v: Vertex) -> usize
-    ensures { (result ≡ odd v.0) × (result ≤ 132083) }
-{
-    2 * (v.0 as usize) + 1013
-}
-
-fn times(x: usize, y: usize) -> usize
-    requires { (x ≤ 17445918889) × (y ≤ 132083) }
-    ensures { result ≡ x * y }
-{
-    x * y
-}
-
 // Three vertices as one number, whatever their order. Other three rarely have the same one at the last bits,
 // so it tells a place in a table.
+#[tactic(auto, unfolding(crate::specs::between::Hash::hash3))]
 pub fn hash3(u: Vertex, v: Vertex, w: Vertex) -> usize
     ensures { result ≡ hash3 u.0 v.0 w.0 }
 {
-    let x = odd(u);
-    let y = odd(v);
-    let z = odd(w);
-    times(times(x, y), z) / 2
+    let odd = |p: Vertex| 2 * usize::from(p.0) + 1013;
+    odd(u) * odd(v) * odd(w) / 2
 }

@@ -6,8 +6,11 @@ ghost use Rattle.base.specs.Lists.{is_in, distinct};
 ghost use Rattle.templates.specs.Tables.{at};
 ghost use Rattle.templates.specs.between.Eight.{eight};
 
+mod kind;
 mod tables;
 
+pub use kind::Kind;
+use std::array;
 pub use tables::ROWS;
 
 // ---- a tuple: the vertices of its corners, in letter order
@@ -16,33 +19,23 @@ pub use tables::ROWS;
 pub fn corner(c: &[u16], k: u8) -> u16
     ensures { result ≡ get_or c.now k 0 }
 {
-    let at = k as usize;
-    if at < c.len() { c[at] } else { 0 }
+    c.get(usize::from(k)).copied().unwrap_or(0)
 }
 
 pub fn is_in(v: u16, xs: &[u16]) -> bool
     ensures { result ≡ is_in v xs.now }
 {
-    let mut i = 0;
-    while i < xs.len() {
-        if v == xs[i] {
-            return true;
-        }
-        i += 1;
-    }
-    false
+    xs.contains(&v)
 }
 
 // No vertex stands twice.
 pub fn all_distinct(c: &[u16]) -> bool
     ensures { result ≡ distinct c.now }
 {
-    let mut i = 0;
-    while i < c.len() {
-        if is_in(c[i], &c[i + 1..]) {
+    for (i, v) in c.iter().enumerate() {
+        if is_in(*v, &c[i + 1..]) {
             return false;
         }
-        i += 1;
     }
     true
 }
@@ -51,21 +44,12 @@ pub fn all_distinct(c: &[u16]) -> bool
 fn turned_at(c: &[u16], row: &[u8], j: usize) -> u16
     ensures { result ≡ get_or (at c.now row.now) j 0 }
 {
-    if j < row.len() { corner(c, row[j]) } else { 0 }
+    row.get(j).map_or(0, |k| corner(c, *k))
 }
 
 // The tuple turned by a row of corners.
 pub fn turned(c: &[u16], row: &[u8]) -> [u16; 8]
     ensures { result ≡ eight (at c.now row.now) }
 {
-    [
-        turned_at(c, row, 0),
-        turned_at(c, row, 1),
-        turned_at(c, row, 2),
-        turned_at(c, row, 3),
-        turned_at(c, row, 4),
-        turned_at(c, row, 5),
-        turned_at(c, row, 6),
-        turned_at(c, row, 7),
-    ]
+    array::from_fn(|j| turned_at(c, row, j))
 }

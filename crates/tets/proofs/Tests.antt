@@ -1,18 +1,33 @@
 -- The tests of one tetrahedron: over all tetrahedra, its four vertices in turn, and a sign. Assumes nothing.
 use mathlib.Core.Path.{◌≡◌, refl, sym, ◌∙◌, ap}
-use mathlib.Core.Bool.{Bool, true, false, not}
-use mathlib.Core.List.{List, map}
+use mathlib.Core.Bool.{Bool, true, false, not, ◌||◌}
+use mathlib.Core.List.{List, [], ◌∷◌, map}
 use Prim.Native.Nat.{ℕ, zero, suc}
+use native.Mathlib.Numerals.{add-one}
 use native.Mathlib.Omega.{arith}
 use lib.IntN.{ℤ, pos, negsuc}
 use lib.ListN.{get_or}
 use lib.Signed.{le_z}
 use borrow.Author.Tests.{lt-leb}
-use Rattle.base.specs.Lists.{any, up_to}
+use Rattle.std.specs.List.{list_any, range_with_len}
+use Rattle.base.specs.Lists.{any, from, up_to}
 use Rattle.base.proofs.Bools.{or-false, or-found, or-passes}
 use Rattle.space.specs.Box.{is_above0}
 use Rattle.space.specs.Arrays.{row4}
 use Rattle.tets_around.proofs.Around.{any-map}
+
+-- ---- a chain's answers, in the words of these contracts
+
+pub any-listed : {A : Type 0} (p : A → Bool) (xs : List A) → list_any p xs ≡ any p xs
+any-listed p [] = refl
+any-listed p (x ∷ xs) = ap (λ b. p x || b) (any-listed p xs)
+
+range-from : (i k : ℕ) → range_with_len i k ≡ from i k
+range-from i zero = refl
+range-from i (suc k) = ap (λ l. i ∷ l) (rw add-one (range-from (suc i) k))
+
+pub any-range : (q : ℕ → Bool) (t : ℕ) → list_any q (range_with_len 0 t) ≡ any q (up_to t)
+any-range q t = any-listed q (range_with_len 0 t) ∙ ap (any q) (range-from 0 t)
 
 pub any-up : (q : ℕ → Bool) (t : ℕ) → any q (map (λ i. i) (up_to t)) ≡ any q (up_to t)
 any-up q t = any-map (λ i. i) q (up_to t)

@@ -14,68 +14,27 @@ pub fn corners(labels: &[u16], e: Tet) -> [u16; 4]
     requires { e.0 < length labels.now / 4 }
     ensures { result ≡ row4 labels.now e.0 }
 {
-    let at = 4 * (e.0 as usize);
+    let at = 4 * usize::from(e.0);
     [labels[at], labels[at + 1], labels[at + 2], labels[at + 3]]
 }
 
 // ---- 5
 
-fn is_past(n: usize, v: Vertex) -> bool
-    ensures { result ≡ leb n v.0 }
-{
-    n <= v.0 as usize
-}
-
 fn is_outside(n: usize, labels: &[u16], e: Tet) -> bool
     requires { e.0 < length labels.now / 4 }
     ensures { result ≡ outside n labels.now e.0 }
 {
-    let c = corners(labels, e);
-    if is_past(n, Vertex(c[0])) {
-        return true;
-    }
-    if is_past(n, Vertex(c[1])) {
-        return true;
-    }
-    if is_past(n, Vertex(c[2])) {
-        return true;
-    }
-    is_past(n, Vertex(c[3]))
+    corners(labels, e).iter().any(|v| n <= usize::from(*v))
 }
 
 // ---- 6
-
-// Two of the four are one.
-fn has_equal(a: Vertex, b: Vertex, c: Vertex, d: Vertex) -> bool
-    ensures { result ≡ not (distinct (a.0 ∷ b.0 ∷ c.0 ∷ d.0 ∷ [])) }
-{
-    if a.0 == b.0 {
-        return true;
-    }
-    if a.0 == c.0 {
-        return true;
-    }
-    if a.0 == d.0 {
-        return true;
-    }
-    if b.0 == c.0 {
-        return true;
-    }
-    if b.0 == d.0 {
-        return true;
-    }
-    if c.0 == d.0 {
-        return true;
-    }
-    false
-}
 
 fn names_twice(labels: &[u16], e: Tet) -> bool
     requires { e.0 < length labels.now / 4 }
     ensures { result ≡ twice labels.now e.0 }
 {
-    let c = corners(labels, e);
-    has_equal(Vertex(c[0]), Vertex(c[1]), Vertex(c[2]), Vertex(c[3]))
+    let [a, b, c, d] = corners(labels, e);
+    a == b || a == c || a == d || b == c || b == d || c == d
 }
 
 // ---- 7
@@ -98,14 +57,8 @@ fn is_flat(coords: &[i64], labels: &[u16], e: Tet) -> bool
     requires e_in_bounds { e.0 < length labels.now / 4 }
     ensures { result ≡ flat coords.now labels.now e.0 }
 {
-    let c = corners(labels, e);
-    box_in(
-        coords,
-        Vertex(c[0]),
-        Vertex(c[1]),
-        Vertex(c[2]),
-        Vertex(c[3]),
-    ) <= 0
+    let [a, b, c, d] = corners(labels, e);
+    box_in(coords, Vertex(a), Vertex(b), Vertex(c), Vertex(d)) <= 0
 }
 
 // ---- over all tetrahedra
@@ -115,15 +68,7 @@ pub fn any_outside(n: usize, labels: &[u16]) -> bool
     requires { length labels.now ≤ 8192 }
     ensures { result ≡ any_outside n labels.now }
 {
-    let t = labels.len() / 4;
-    let mut j = 0;
-    while j < t {
-        if is_outside(n, labels, Tet(j as u16)) {
-            return true;
-        }
-        j += 1;
-    }
-    false
+    (0..labels.len() / 4).any(|j| is_outside(n, labels, Tet(j as u16)))
 }
 
 // Refusal 6: some tetrahedron names a vertex twice.
@@ -131,15 +76,7 @@ pub fn any_twice(labels: &[u16]) -> bool
     requires { length labels.now ≤ 8192 }
     ensures { result ≡ any_twice labels.now }
 {
-    let t = labels.len() / 4;
-    let mut j = 0;
-    while j < t {
-        if names_twice(labels, Tet(j as u16)) {
-            return true;
-        }
-        j += 1;
-    }
-    false
+    (0..labels.len() / 4).any(|j| names_twice(labels, Tet(j as u16)))
 }
 
 // Refusal 7: the box of some tetrahedron is not above 0.
@@ -148,13 +85,5 @@ pub fn any_flat(coords: &[i64], labels: &[u16]) -> bool
     requires labels_len_bound { length labels.now ≤ 8192 }
     ensures { result ≡ any_flat coords.now labels.now }
 {
-    let t = labels.len() / 4;
-    let mut j = 0;
-    while j < t {
-        if is_flat(coords, labels, Tet(j as u16)) {
-            return true;
-        }
-        j += 1;
-    }
-    false
+    (0..labels.len() / 4).any(|j| is_flat(coords, labels, Tet(j as u16)))
 }

@@ -9,7 +9,7 @@ use Rattle.base.specs.Lists.{distinct}
 use Rattle.templates.specs.Tables.{Template, templates, is_kind, template_of, at}
 use Rattle.least.specs.Least.{is_least}
 use Rattle.least.proofs.OneLeast.{one-least}
-use Rattle.turning.specs.declared.Least.TheVariants.{Refused}
+use Rattle.std.specs.Prelude.{None}
 use Rattle.turning.specs.Form.{least_by, form_of, form_by, least_form, least_number}
 
 pub template-of : {t : Template} → Memᴰ t templates → (is_kind t.kind ≡ true) × (template_of t.kind ≡ t)
@@ -31,7 +31,7 @@ pub least-number : (k : ℕ) (vs : List ℕ) → least_number (least_form k vs) 
 unfolding least_form form_by
 least-number k vs = go (is_kind k) (distinct (take (template_of k).corners vs)) (least_by (template_of k).turns (template_of k).less (take (template_of k).corners vs))
   where
-    go : (a b : Bool) (xs : List ℕ) → least_number (cond a (cond b (form_of xs) Refused) Refused) ≡ cond (a && b) 0 13
+    go : (a b : Bool) (xs : List ℕ) → least_number (cond a (cond b (form_of xs) None) None) ≡ cond (a && b) 0 13
     go true true xs = refl
     go true false xs = refl
     go false b xs = refl
@@ -39,4 +39,4 @@ least-number k vs = go (is_kind k) (distinct (take (template_of k).corners vs)) 
 -- the numbers in unused places do not count
 pub unused : (k : ℕ) (vs ws : List ℕ) → take (template_of k).corners vs ≡ take (template_of k).corners ws → least_form k vs ≡ least_form k ws
 unfolding least_form
-unused k vs ws e = ap (λ c. cond (is_kind k) (form_by (template_of k).turns (template_of k).less c) Refused) e
+unused k vs ws e = ap (λ c. cond (is_kind k) (form_by (template_of k).turns (template_of k).less c) None) e

@@ -5,25 +5,28 @@
 // where the text could not be written.
 #![tactic(auto)]
 
-ghost use Rattle.std.specs.Prelude.{◌≡◌, IsTrue, length};
+ghost use Rattle.std.specs.Prelude.{IsTrue};
 ghost use Rattle.std.specs.Io.KnownBytes.{Appends};
 ghost use Rattle.unpacking.specs.Unpacked.{file_text};
 
-use output::{show_front, tell_refused};
-use packing::Written;
+use output::{TEXT, show_front, tell_refused};
 use std::io::Write;
 
 // The job, of the file that was read, with a text in which that of every file has place. Answers whether the file's text
 // was written.
-pub fn unpack<W: Write, E: Write>(to: &mut W, err: &mut E, out: &mut [u8], file: &[u8]) -> bool
-    requires { length out.old ≡ 65536 }
+pub fn unpack<W: Write, E: Write>(
+    to: &mut W,
+    err: &mut E,
+    out: &mut [u8; TEXT],
+    file: &[u8],
+) -> bool
     ensures { IsTrue result → Appends (W.contents to.old) (W.contents to.new) (file_text file.now) }
 {
     let answer = unpacking::unpack(file, out);
     match answer {
-        Written::Whole(size) => show_front(to, err, out, size),
-        Written::Refused(number) => {
-            tell_refused(err, out, number);
+        Ok(size) => show_front(to, err, out, size),
+        Err(refusal) => {
+            tell_refused(err, out, u8::from(refusal));
             false
         }
     }

@@ -16,11 +16,11 @@ use Rattle.base.proofs.Signed.{to_z_pos}
 use Rattle.tets_around.specs.between.Index.{Labelled}
 use Rattle.layout.specs.Layout.{vertices, coords_of, labels_of, parts_of}
 use Rattle.layout.specs.between.Framed.{Framed}
-use Rattle.arrays.specs.Refusals.{refusals, refusal, checked}
-use Rattle.arrays.specs.declared.Checked.TheVariants.{Accepted, Refused as NoMesh}
+use Rattle.arrays.specs.Refusals.{refusals, refusal, accepted, checked}
+use Rattle.std.specs.Prelude.{Ok, Err}
+use Rattle.refusals.specs.declared.Refusal.{Refusal}
 use Rattle.arrays.proofs.Accepted.{accepted_gives}
-use Rattle.arrays.proofs.Answers.{accepted-says, refused_says}
-use Rattle.packing.specs.declared.Written.TheVariants.{Whole, Refused}
+use Rattle.arrays.proofs.Answers.{accepted-says, refused_says, refusal_named}
 use Rattle.packing.proofs.Ways.{unless_refused, unless_none}
 use Rattle.lines.proofs.Numbers.{behind}
 use Rattle.writing_lists.specs.Printed.{line_of, vertex_lines, tet_lines, text_of}
@@ -57,7 +57,7 @@ pub file-laid : (f : List ℕ) {cs : List ℤ} {ls ps : List ℕ} {r : ℕ} {old
 unfolding file_text
 file-laid f a b c d = rw (a, b, c) at d
 
-pub framed-by : (f : List ℕ) {n t : ℕ} → checked f ≡ Accepted n t → Framed f n t
+pub framed-by : (f : List ℕ) {n t : ℕ} → checked f ≡ accepted n t → Framed f n t
 framed-by f e =
     let s = accepted-says f e in
     let g = (accepted_gives f s.0).framed in
@@ -68,7 +68,7 @@ few-of : (ls : List ℕ) (n : ℕ) → n ≤ 512 → Labelled ls n → ThreeDigi
 few-of ls n h d = record { few = λ i. elim (dec_lt i (length ls)) [ yes l ↦ omega (arith, d.below i l) | no l ↦ omega (arith, get_or-eq_default ls 0 {n = i} (omega arith)) ] }
 
 -- so a text of an accepted file has place in the room
-pub file-fits : (f : List ℕ) {n t : ℕ} {cs : List ℤ} {ls ps : List ℕ} {room : ℕ} → checked f ≡ Accepted n t → cs ≡ coords_of f → ls ≡ labels_of f → ps ≡ parts_of f
+pub file-fits : (f : List ℕ) {n t : ℕ} {cs : List ℤ} {ls ps : List ℕ} {room : ℕ} → checked f ≡ accepted n t → cs ≡ coords_of f → ls ≡ labels_of f → ps ≡ parts_of f
     → length cs ≡ 3 * n → length ls ≡ 4 * t → length ps ≡ t → text_room ≤ room → TextFits cs ls ps room
 file-fits f {n} {t} e a b c x y z h =
     let s = accepted-says f e in
@@ -84,13 +84,13 @@ file-fits f {n} {t} e a b c x y z h =
 -- ---- the answer
 
 module _ (f : List ℕ) where
-  pub whole_is : {n t k : ℕ} → checked f ≡ Accepted n t → k ≡ length (file_text f) → Whole k ≡ unpacked f
+  pub whole_is : {n t k : ℕ} → checked f ≡ accepted n t → k ≡ length (file_text f) → Ok k ≡ unpacked f
   unfolding unpacked refusal
-  whole_is e h = ap Whole h ∙ unless_none (refusals f) (length (file_text f)) (sym (accepted-says f e).0)
+  whole_is e h = ap Ok h ∙ unless_none (refusals f) (length (file_text f)) (sym (accepted-says f e).0)
 
-  pub refused-is : {k : ℕ} → checked f ≡ NoMesh k → Refused k ≡ unpacked f
+  pub refused-is : {r : Refusal} → checked f ≡ Err r → Err r ≡ unpacked f
   unfolding unpacked refusal
-  refused-is e = let s = refused_says f e in unless_refused (refusals f) (length (file_text f)) (sym s.0) s.1
+  refused-is e = unless_refused (refusals f) (length (file_text f)) (sym (refused_says f (refusal_named f) e))
 
 pub front-laid : {xs old l : List ℕ} {k : ℕ} → k ≡ length xs → Laid 0 xs old l → l ≡ xs ++ drop k old
 front-laid {xs} {old} e d = d.content ∙ lay-front xs old ∙ ap (λ i. xs ++ drop i old) (sym e)

@@ -6,26 +6,17 @@ ghost use Rattle.std.specs.Prelude.{◌≡◌, ◌+◌, ◌*◌, ◌≤◌, ◌<
 ghost use Rattle.base.specs.Laid.{Laid};
 ghost use Rattle.space.specs.between.Working.{Close};
 ghost use Rattle.layout.specs.between.Framed.{Framed};
-ghost use Rattle.arrays.specs.Refusals.{checked};
-ghost use Rattle.arrays.specs.declared.Checked.TheVariants.{Accepted};
+ghost use Rattle.arrays.specs.Refusals.{checked, accepted};
 ghost use Rattle.packing.specs.Packed.{room_after};
 ghost use Rattle.writing_lists.specs.Printed.{line_of, vertex_row, tet_row, vertex_lines, tet_lines, text_of};
 ghost use Rattle.unpacking.specs.Unpacked.{file_text, unpacked};
 ghost use Rattle.unpacking.specs.between.Sizes.{vertex_most, tet_most, vertex_place, tet_place, text_room, ThreeDigits, TextFits};
 
-use arrays::Checked;
-use decoding::decode;
-use packing::Written;
+use arrays::{Counts, Lists, Room};
+use refusals::Refusal;
 use writing_lists::put_line;
 
 // ---- a line
-
-// A 16-bit number at 64 bits.
-fn wide(x: u16) -> i64
-    ensures { (result ≡ pos x) × (x < 65536) }
-{
-    x as i64
-}
 
 fn put_vertex(out: &mut [u8], at: usize, coordinates: &[i64], v: usize) -> usize
     requires { (at + vertex_place ≤ length out.old) × (3 * v + 3 ≤ length coordinates.now) }
@@ -41,11 +32,11 @@ fn put_tet(out: &mut [u8], at: usize, labels: &[u16], parts: &[u16], j: usize) -
     ensures next { result ≡ at + length (line_of (tet_row labels.now parts.now j)) }
     ensures text { Laid at (line_of (tet_row labels.now parts.now j)) out.old out.new }
 {
-    let a = wide(labels[4 * j]);
-    let b = wide(labels[4 * j + 1]);
-    let c = wide(labels[4 * j + 2]);
-    let d = wide(labels[4 * j + 3]);
-    let part = wide(parts[j]);
+    let a = i64::from(labels[4 * j]);
+    let b = i64::from(labels[4 * j + 1]);
+    let c = i64::from(labels[4 * j + 2]);
+    let d = i64::from(labels[4 * j + 3]);
+    let part = i64::from(parts[j]);
     let numbers = [a, b, c, d, part];
     put_line(out, at, &numbers)
 }
@@ -59,10 +50,8 @@ fn put_vertices(out: &mut [u8], from: usize, coordinates: &[i64], n: usize) -> u
     ensures text { Laid from (vertex_lines coordinates.now n) out.old out.new }
 {
     let mut at = from;
-    let mut v = 0;
-    while v < n {
+    for v in 0..n {
         at = put_vertex(out, at, coordinates, v);
-        v += 1;
     }
     at
 }
@@ -75,10 +64,8 @@ fn put_tets(out: &mut [u8], from: usize, labels: &[u16], parts: &[u16]) -> usize
         out.old out.new }
 {
     let mut at = from;
-    let mut j = 0;
-    while j < parts.len() {
+    for j in 0..parts.len() {
         at = put_tet(out, at, labels, parts, j);
-        j += 1;
     }
     at
 }
@@ -98,57 +85,28 @@ fn put_lists(out: &mut [u8], coordinates: &[i64], labels: &[u16], parts: &[u16])
     put_tets(out, second, labels, parts)
 }
 
-// Puts the text of an accepted file, which is decoded into the lent arrays.
-fn put_decoded(
-    out: &mut [u8],
-    file: &[u8],
-    n: usize,
-    t: usize,
-    coords: &mut [i64],
-    labels: &mut [u16],
-    parts: &mut [u16],
-) -> usize
-    requires framed { Framed file.now n t × (checked file.now ≡ Accepted n t) }
+// Puts the text of an accepted file.
+fn put_file(out: &mut [u8], file: &[u8], counts: Counts) -> usize
+    requires framed { Framed file.now counts.vertices counts.tets × (checked file.now ≡ accepted counts.vertices counts.tets) }
     requires text_room_in_bounds { text_room ≤ length out.old }
-    requires coords_len { (length coords.old ≡ 3 * n) × ((length labels.old ≡ 4 * t) × (length parts.old ≡ t)) }
     ensures next { result ≡ length (file_text file.now) }
     ensures text { Laid 0 (file_text file.now) out.old out.new }
 {
-    decode(file, n, t, coords, labels, parts);
+    let mut room = Room::new();
+    let Lists {
+        coords,
+        labels,
+        parts,
+    } = room.decode(file, counts);
     put_lists(out, coords, labels, parts)
 }
 
-fn put_file(out: &mut [u8], file: &[u8], n: usize, t: usize) -> usize
-    requires framed { Framed file.now n t × (checked file.now ≡ Accepted n t) }
-    requires text_room_in_bounds { text_room ≤ length out.old }
-    ensures next { result ≡ length (file_text file.now) }
-    ensures text { Laid 0 (file_text file.now) out.old out.new }
-{
-    let mut coords: [i64; 1536] = [0; 1536];
-    let mut labels: [u16; 8192] = [0; 8192];
-    let mut parts: [u16; 2048] = [0; 2048];
-    put_decoded(
-        out,
-        file,
-        n,
-        t,
-        &mut coords[..3 * n],
-        &mut labels[..4 * t],
-        &mut parts[..t],
-    )
-}
-
 // Writes the text of the file to the front of the room: its refusal, or else how long the text is.
-pub fn unpack(file: &[u8], room: &mut [u8]) -> Written
+pub fn unpack(file: &[u8], room: &mut [u8]) -> Result<usize, Refusal>
     requires { text_room ≤ length room.old }
     ensures answer { result ≡ unpacked file.now }
     ensures room { room.new ≡ room_after (file_text file.now) result room.old }
 {
-    let found = mesh::check(file);
-    match found {
-        Checked::Accepted { vertices, tets } => Written::Whole(put_file(
-            room, file, vertices, tets,
-        )),
-        Checked::Refused(number) => Written::Refused(number),
-    }
+    let counts = mesh::check(file)?;
+    Ok(put_file(room, file, counts))
 }

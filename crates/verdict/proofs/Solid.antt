@@ -1,7 +1,7 @@
 -- Condition 5 implies 2 and 3: a triangle on the boundary is a facet of one of the cell's tetrahedra,
 -- and every edge is a side of one, whichever diagonal a quadrilateral has. Assumes nothing.
-use mathlib.Core.Path.{◌≡◌, refl, sym, ◌∙◌, ap}
-use mathlib.Core.Bool.{Bool, true, false, cond, ◌&&◌, ◌||◌, true≢false}
+use mathlib.Core.Path.{◌≡◌, refl, sym, ◌∙◌, ap, subst}
+use mathlib.Core.Bool.{Bool, true, false, cond, ◌&&◌, ◌||◌}
 use mathlib.Core.List.{List, [], ◌∷◌}
 use Prim.Native.Nat.{ℕ, suc}
 use native.Mathlib.Omega.{arith}
@@ -16,9 +16,13 @@ use Rattle.space.specs.Mesh.{Mesh, Tetrahedron, holds, together}
 use Rattle.tets_around.proofs.Around.{count-keep}
 use Rattle.templates.specs.Tables.{Template, at}
 use Rattle.cells.specs.Cells.{one_diagonal, other_diagonal, inside, one, once, paired, covers, fills, splits, all_faces, is_tuple, has_edges, is_facet, is_split, has_faces, is_sound, belongs, tets_of, sides, is_filled_by, is_filled, is_one_part, is_cell}
-use Rattle.verdict.specs.declared.Verdict.{Verdict}
+use Rattle.filling.specs.declared.Tets.{Tets}
 use Rattle.verdict.specs.between.Judged.{is_solid, Tells}
-use Rattle.judging.specs.between.Last.{last_of}
+use Rattle.judging.specs.declared.Condition.{Condition}
+use Rattle.judging.specs.declared.Condition.TheVariants.{Corners, Edges, Faces, Boxes, Filled, OnePart}
+use Rattle.judging.specs.between.Last.{last_of, number, condition_no}
+use Rattle.filling.specs.between.Numbered.{Numbered}
+use Rattle.std.specs.Prelude.{Option, None, IfSome, Result, Ok, Err, is_ok}
 
 or_left : (a b : Bool) → a ≡ true → (a || b) ≡ true
 or_left a b e = rw e
@@ -149,15 +153,32 @@ solid_is m t c w =
     drop-two (is_tuple m t c) (has_edges m t c) (has_faces m t c) (is_sound m t c) (is_filled m t c) (is_one_part m t c) (filled-faces m t c) (faces-edges m t c w)
 
 -- the same with the tetrahedra
-pub tells-cell : {m : Mesh} {t : Template} {c : List ℕ} {v : Verdict} → edged t ≡ true → Tells is_solid m t c v → Tells is_cell m t c v
+pub tells-cell : {m : Mesh} {t : Template} {c : List ℕ} {v : Option Tets} → edged t ≡ true → Tells is_solid m t c v → Tells is_cell m t c v
 tells-cell {m} {t} {c} w x = record { is = x.is ∙ solid_is m t c w; tets = x.tets }
 
--- no is told where the test fails; then no tetrahedra are asked for
-pub tells-no : {test : Mesh → Template → List ℕ → Bool} {m : Mesh} {t : Template} {c : List ℕ} {v : Verdict} → v.yes ≡ false → false ≡ test m t c → Tells test m t c v
-tells-no n e = record { is = n ∙ e; tets = λ y. absurd (true≢false (sym y ∙ n)) }
+-- nothing is told where the test fails
+pub tells-no : {test : Mesh → Template → List ℕ → Bool} {m : Mesh} {t : Template} {c : List ℕ} → false ≡ test m t c → Tells test m t c None
+tells-no e = record { is = e; tets = tt }
+
+-- the tetrahedra that are told, by the same numbers
+pub told_as : {xs ys : List ℕ} (v : Option Tets) → xs ≡ ys → IfSome v (λ f. Numbered xs f) → IfSome v (λ f. Numbered ys f)
+told_as v e h = subst (λ l. IfSome v (λ f. Numbered l f)) e h
 
 -- conditions 5 and 6 as one test
 pub last-two : (f o : Bool) → eqb (last_of f o) 0 ≡ (f && o)
 last-two true true = refl
 last-two true false = refl
 last-two false o = refl
+
+-- no condition has the number 0
+number_some : (k : Condition) → eqb (number k) 0 ≡ false
+number_some Corners = refl
+number_some Edges = refl
+number_some Faces = refl
+number_some Boxes = refl
+number_some Filled = refl
+number_some OnePart = refl
+
+pub none-fails : {A : Type 0} (r : Result A Condition) → is_ok r ≡ eqb (condition_no r) 0
+none-fails (Ok x) = refl
+none-fails (Err k) = sym (number_some k)

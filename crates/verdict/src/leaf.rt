@@ -1,30 +1,22 @@
 // The test of a whole tuple of the search: a cell in least form.
-ghost use Rattle.std.specs.Prelude.{◌≡◌, true, ◌/◌, length};
+ghost use Rattle.std.specs.Prelude.{◌≡◌, is_some, IfSome};
 ghost use Rattle.filling.specs.between.Numbered.{Numbered};
 ghost use Rattle.rule.specs.between.Leaf.{leaf_in, leaf_tets};
-ghost use Rattle.tets_around.specs.between.Arrays.{Arrays};
 
-use crate::{Verdict, is_cell, no};
+use crate::is_cell;
+use filling::Tets;
 use least::is_least;
 use order::letters;
+use tets_around::Mesh;
 
-// The tuple, in search order, is a cell in least form, and the tetrahedra of that cell.
-pub fn is_leaf(
-    coords: &[i64],
-    labels: &[u16],
-    parts: &[u16],
-    offsets: &[u16],
-    entries: &[u16],
-    kind: u16,
-    s: [u16; 8],
-) -> Verdict
-    requires { Arrays coords.now labels.now parts.now (length coords.now / 3) offsets.now entries.now }
-    ensures yes_value { result.yes ≡ leaf_in coords.now labels.now parts.now kind s }
-    ensures numbered { result.yes ≡ true → Numbered (leaf_tets coords.now labels.now parts.now kind s) result.tets }
+// The tetrahedra of the cell that the tuple, in search order, is in least form, where it is one.
+pub fn is_leaf(mesh: &Mesh<'_>, kind: u16, s: [u16; 8]) -> Option<Tets>
+    ensures yes_value { is_some result ≡ leaf_in mesh.now.coords.now mesh.now.index.labels.now mesh.now.parts.now kind s }
+    ensures numbered { IfSome result (λ f. Numbered (leaf_tets mesh.now.coords.now mesh.now.index.labels.now mesh.now.parts.now kind s) f) }
 {
     let c = letters(kind, s);
     if !is_least(kind, &c) {
-        return no();
+        return None;
     }
-    is_cell(coords, labels, parts, offsets, entries, kind, &c)
+    is_cell(mesh, kind, &c)
 }

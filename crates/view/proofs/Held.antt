@@ -15,7 +15,7 @@ use Rattle.layout.specs.Layout.{mesh_in, tet_part}
 use Rattle.view.proofs.Says.{point-is, tet-is, label0, label1, label2, label3, part_at}
 use Rattle.view.specs.View.{fills_file, tetrahedron, four}
 use Rattle.view.specs.between.Reads.{point_read, tetra_read}
-use Rattle.view.specs.declared.Tetra.{Tetra}
+use Rattle.space.specs.declared.Vertex.{Vertex}
 
 -- what counts that fit tell
 pub record Fitted (f : List ℕ) (n t : ℕ) : Type 0 where
@@ -42,7 +42,7 @@ module _ (f : List ℕ) (n t : ℕ) where
       let p = tet_part n f in
       rw (tet-is f n t (record { vertices = []; part = 0 }) j h, label0 p t j h, label1 p t j h, label2 p t j h, label3 p t j h)
 
-  pub tetra_held : {r : Tetra} (j : ℕ) → j < t → r ≡ tetra_read (take (length f - (24 + 12 * n)) (drop (24 + 12 * n) f)) j → r ≡ four (tetrahedron (mesh_in f n t) j)
+  pub tetra_held : {r : List Vertex} (j : ℕ) → j < t → r ≡ tetra_read (take (length f - (24 + 12 * n)) (drop (24 + 12 * n) f)) j → r ≡ four (tetrahedron (mesh_in f n t) j)
   tetra_held j h e = e ∙ ap (λ l. tetra_read l j) (part-is (24 + 12 * n) f) ∙ tetra_is j h
 
   pub part_held : {r : ℕ} (j : ℕ) → j < t → r ≡ u16_at (take (length f - (24 + 12 * n)) (drop (24 + 12 * n) f)) (10 * j + 8) → r ≡ (tetrahedron (mesh_in f n t) j).part

@@ -13,24 +13,22 @@ use Rattle.space.specs.declared.Tet.{Tet}
 use Rattle.layout.specs.Layout.{decoded}
 use Rattle.layout.specs.between.Framed.{Framed}
 use Rattle.view.specs.View.{fills_file, tetrahedron, four, place_in, tetra_in, part_in}
-use Rattle.view.specs.declared.Located.TheVariants.{At, Nowhere}
-use Rattle.view.specs.declared.Tetra.TheVariants.{NoTet}
-use Rattle.view.specs.declared.Part.TheVariants.{Number, NoPart}
+use Rattle.std.specs.Prelude.{Some, None}
 
 module _ {f : List ℕ} {n t : ℕ} (h : Framed f n t) where
   pub fits-framed : fills_file f n t ≡ true
   unfolding fills_file
   fits-framed = rw (le-leb n 512 h.few_vertices, le-leb t 2048 h.few_tets, eq-eqb (length f) (24 + 12 * n + 10 * t) (sym h.whole))
 
-  pub place-framed : (v : Vertex) → place_in f n t v ≡ cond (ltb v.0 n) (At (point (decoded f) v.0)) Nowhere
+  pub place-framed : (v : Vertex) → place_in f n t v ≡ cond (ltb v.0 n) (Some (point (decoded f) v.0)) None
   unfolding place_in
   place-framed v = rw (fits-framed, h.vertex)
 
-  pub tetra_framed : (j : Tet) → tetra_in f n t j ≡ cond (ltb j.0 t) (four (tetrahedron (decoded f) j.0)) NoTet
+  pub tetra_framed : (j : Tet) → tetra_in f n t j ≡ cond (ltb j.0 t) (Some (four (tetrahedron (decoded f) j.0))) None
   unfolding tetra_in
   tetra_framed j = rw (fits-framed, h.vertex, h.tet)
 
-  pub part-framed : (j : Tet) → part_in f n t j ≡ cond (ltb j.0 t) (Number (tetrahedron (decoded f) j.0).part) NoPart
+  pub part-framed : (j : Tet) → part_in f n t j ≡ cond (ltb j.0 t) (Some (tetrahedron (decoded f) j.0).part) None
   unfolding part_in
   part-framed j = rw (fits-framed, h.vertex, h.tet)
 
@@ -40,14 +38,14 @@ nowhere true x y z = rw (le-ltb x 0 (omega arith))
 nowhere false x y z = refl
 
 module _ (f : List ℕ) where
-  pub place-empty : (v : Vertex) → place_in f 0 0 v ≡ Nowhere
+  pub place-empty : (v : Vertex) → place_in f 0 0 v ≡ None
   unfolding place_in
   place-empty v = nowhere (fills_file f 0 0) v.0 _ _
 
-  pub tetra_empty : (j : Tet) → tetra_in f 0 0 j ≡ NoTet
+  pub tetra_empty : (j : Tet) → tetra_in f 0 0 j ≡ None
   unfolding tetra_in
   tetra_empty j = nowhere (fills_file f 0 0) j.0 _ _
 
-  pub part-empty : (j : Tet) → part_in f 0 0 j ≡ NoPart
+  pub part-empty : (j : Tet) → part_in f 0 0 j ≡ None
   unfolding part_in
   part-empty j = nowhere (fills_file f 0 0) j.0 _ _

@@ -2,50 +2,20 @@
 // file, nothing is anywhere.
 #![tactic(auto)]
 
-ghost use Rattle.std.specs.Prelude.{◌≡◌, ◌+◌, ◌*◌, ◌≤◌, length};
+ghost use Rattle.std.specs.Prelude.{◌≡◌, ◌+◌, ◌*◌, ◌≤◌, IsTrue, length};
 ghost use Rattle.view.specs.View.{fills_file, place_in, tetra_in, part_in};
 ghost use Rattle.view.specs.between.Reads.{point_read, tetra_read};
 
 use layout::{i32_at, u16_at};
 use space::{Point, Tet, Vertex};
 
-// Where a vertex is.
-#[derive(Clone, Copy)]
-pub enum Located {
-    At(Point),
-    Nowhere,
-}
-
-// The vertices of a tetrahedron.
-#[derive(Clone, Copy)]
-pub enum Tetra {
-    Four {
-        a: Vertex,
-        b: Vertex,
-        c: Vertex,
-        d: Vertex,
-    },
-    NoTet,
-}
-
-// The part of a tetrahedron.
-#[derive(Clone, Copy)]
-pub enum Part {
-    Number(u16),
-    NoPart,
-}
-
 // The counts fill the file: without this no reader below looks into it.
+#[tactic(auto, unfolding(crate::specs::View::fills_file))]
 fn counts_fit(file: &[u8], n: usize, t: usize) -> bool
-    ensures { result ≡ fills_file file.now n t }
+    ensures fits { result ≡ fills_file file.now n t }
+    ensures sizes { IsTrue result → (n ≤ 512) × (t ≤ 2048) × (length file.now ≡ 24 + 12 * n + 10 * t) }
 {
-    if 512 < n {
-        return false;
-    }
-    if 2048 < t {
-        return false;
-    }
-    file.len() == 24 + 12 * n + 10 * t
+    n <= 512 && t <= 2048 && file.len() == 24 + 12 * n + 10 * t
 }
 
 // Point `k` of a vertex part.
@@ -62,62 +32,54 @@ fn point_in(part: &[u8], k: usize) -> Point
 }
 
 // The vertices of tetrahedron `j` of a tetrahedron part.
-fn tet_in(part: &[u8], j: usize) -> Tetra
+fn tet_in(part: &[u8], j: usize) -> [Vertex; 4]
     requires { 10 * j + 10 ≤ length part.now }
     ensures { result ≡ tetra_read part.now j }
 {
     let at = 10 * j;
-    Tetra::Four {
-        a: Vertex(u16_at(part, at)),
-        b: Vertex(u16_at(part, at + 2)),
-        c: Vertex(u16_at(part, at + 4)),
-        d: Vertex(u16_at(part, at + 6)),
-    }
+    [
+        Vertex(u16_at(part, at)),
+        Vertex(u16_at(part, at + 2)),
+        Vertex(u16_at(part, at + 4)),
+        Vertex(u16_at(part, at + 6)),
+    ]
 }
 
 // The point of a vertex, in a file with `n` vertices and `t` tetrahedra.
-pub fn point_of(file: &[u8], n: usize, t: usize, v: Vertex) -> Located
+#[tactic(auto, unfolding(crate::specs::View::place_in))]
+pub fn point_of(file: &[u8], n: usize, t: usize, v: Vertex) -> Option<Point>
     ensures { result ≡ place_in file.now n t v }
 {
-    if !counts_fit(file, n, t) {
-        return Located::Nowhere;
-    }
     let k = v.0 as usize;
-    if k < n {
-        Located::At(point_in(&file[24..], k))
+    if counts_fit(file, n, t) && k < n {
+        Some(point_in(&file[24..], k))
     } else {
-        Located::Nowhere
+        None
     }
 }
 
 // The vertices of a tetrahedron.
-pub fn tet_of(file: &[u8], n: usize, t: usize, e: Tet) -> Tetra
+#[tactic(auto, unfolding(crate::specs::View::tetra_in))]
+pub fn tet_of(file: &[u8], n: usize, t: usize, e: Tet) -> Option<[Vertex; 4]>
     ensures { result ≡ tetra_in file.now n t e }
 {
-    if !counts_fit(file, n, t) {
-        return Tetra::NoTet;
-    }
     let j = e.0 as usize;
-    let at = 24 + 12 * n;
-    if j < t {
-        tet_in(&file[at..], j)
+    if counts_fit(file, n, t) && j < t {
+        Some(tet_in(&file[24 + 12 * n..], j))
     } else {
-        Tetra::NoTet
+        None
     }
 }
 
 // The part of a tetrahedron.
-pub fn part_of(file: &[u8], n: usize, t: usize, e: Tet) -> Part
+#[tactic(auto, unfolding(crate::specs::View::part_in))]
+pub fn part_of(file: &[u8], n: usize, t: usize, e: Tet) -> Option<u16>
     ensures { result ≡ part_in file.now n t e }
 {
-    if !counts_fit(file, n, t) {
-        return Part::NoPart;
-    }
     let j = e.0 as usize;
-    let at = 24 + 12 * n;
-    if j < t {
-        Part::Number(u16_at(&file[at..], 10 * j + 8))
+    if counts_fit(file, n, t) && j < t {
+        Some(u16_at(&file[24 + 12 * n..], 10 * j + 8))
     } else {
-        Part::NoPart
+        None
     }
 }

@@ -11,72 +11,54 @@
 // so; `lost`, where a line could not be written.
 #![tactic(auto)]
 
-ghost use Rattle.std.specs.Prelude.{◌≡◌, length};
-
-use arrays::Checked;
+use arrays::Counts;
 use looking::{Asked, Seen, look};
-use output::{show_number, show_numbers, tell_lost, tell_refused};
-use reasons::Finding;
+use output::{Lost, TEXT, show_number, show_numbers, tell_lost, tell_refused};
 use std::io::Write;
 
-fn show_seen(to: &mut impl Write, out: &mut [u8], s: Seen) -> bool
-    requires { (length out.old ≡ 65536) × (10 ≡ length s.line) }
-{
+fn show_seen(to: &mut impl Write, out: &mut [u8; TEXT], s: Seen) -> Result<(), Lost> {
     let Seen { line, box_size } = s;
-    if !show_numbers(to, out, b"seen", &line) {
-        return false;
-    }
+    show_numbers(to, out, b"seen", &line)?;
     show_number(to, out, b"box", box_size)
 }
 
-fn show_found(to: &mut impl Write, out: &mut [u8], file: &[u8], asked: Asked) -> bool
-    requires { length out.old ≡ 65536 }
-{
-    let head = arrays::header(file);
-    match head {
-        Checked::Accepted { vertices, tets } => {
-            show_seen(to, out, look(file, vertices, tets, asked))
-        }
-        Checked::Refused(_) => false,
+fn show_found(
+    to: &mut impl Write,
+    out: &mut [u8; TEXT],
+    file: &[u8],
+    asked: Asked,
+) -> Result<(), Lost> {
+    match arrays::header(file) {
+        Ok(Counts { vertices, tets }) => show_seen(to, out, look(file, vertices, tets, asked)),
+        Err(_) => Err(Lost),
     }
 }
 
-// Ten entries, their number alone told.
-fn entries(found: Finding) -> [u16; 10]
-    ensures { 10 ≡ length result }
-{
-    let mut answer = [0u16; 10];
-    findings::hand_out(found, &mut answer);
-    answer
-}
-
-fn show_answer(to: &mut impl Write, out: &mut [u8], file: &[u8], asked: Asked) -> bool
-    requires { length out.old ≡ 65536 }
-{
-    let Asked { kind, tuple, found } = asked;
-    let answer = entries(found);
-    if !show_numbers(to, out, b"why", &answer) {
-        return false;
-    }
-    show_found(to, out, file, Asked { kind, tuple, found })
+fn show_answer(
+    to: &mut impl Write,
+    out: &mut [u8; TEXT],
+    file: &[u8],
+    asked: Asked,
+) -> Result<(), Lost> {
+    let mut answer = [0; 10];
+    findings::hand_out(asked.found, &mut answer);
+    show_numbers(to, out, b"why", &answer)?;
+    show_found(to, out, file, asked)
 }
 
 // The job, of the file that was read, for a kind and eight numbers.
 pub fn tell(
     to: &mut impl Write,
     err: &mut impl Write,
-    out: &mut [u8],
+    out: &mut [u8; TEXT],
     file: &[u8],
     kind: u16,
     tuple: [u16; 8],
-)
-    requires { length out.old ≡ 65536 }
-{
-    let found = why::explain(file, kind, &tuple);
-    match found {
-        Finding::Refused(number) => tell_refused(err, out, number),
-        _ => {
-            if !show_answer(to, out, file, Asked { kind, tuple, found }) {
+) {
+    match why::explain(file, kind, &tuple) {
+        Err(refusal) => tell_refused(err, out, u8::from(refusal)),
+        Ok(found) => {
+            if show_answer(to, out, file, Asked { kind, tuple, found }).is_err() {
                 tell_lost(err);
             }
         }

@@ -20,8 +20,7 @@ use Rattle.neighbours.specs.Table.{neighbour_row, first_rows, offsets, table_by,
 use Rattle.portions.specs.Portions.{Portion, reply, refused, before, is_after, after, records, last_mark, portion_of, portion}
 use Rattle.record.specs.Entries.{entries}
 use Rattle.rule.specs.Rule.{key, tet_rule}
-use Rattle.records.specs.declared.Answer.{Answer}
-use Rattle.records.specs.Marks.{says}
+use Rattle.records.specs.Marks.{Answer, says}
 use Rattle.portioning.specs.Portion.{barred, portion_by, table_left, Portioned}
 use Rattle.portioning.proofs.Promised.{bars_file, bars_past}
 use Rattle.listing.proofs.File.{accepted-passed}

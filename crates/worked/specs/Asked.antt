@@ -1,8 +1,9 @@
 -- Why tuples are not cells, asked of files: the rows. Each shows too that its file is accepted, or how it is refused.
 -- Assumes nothing.
-use Rattle.std.specs.Prelude.{ℕ, List, [], ◌∷◌}
+use Rattle.std.specs.Prelude.{ℕ, List, [], ◌∷◌, Ok, Err}
+use Rattle.refusals.specs.Named.{named}
 use Rattle.reasons.specs.declared.Finding.{Finding}
-use Rattle.reasons.specs.declared.Finding.TheVariants.{Cell, Turned, BadCorner, NoEdge, NoFace, BadBox, OpenFace, OpenTriple, TwoParts, Refused}
+use Rattle.reasons.specs.declared.Finding.TheVariants.{Cell, Turned, BadCorner, NoEdge, NoFace, BadBox, OpenFace, OpenTriple, TwoParts}
 use Rattle.worked.specs.Files.{vertex, joins, file, cube_with, fan, file_p, file_c, mixed, turned}
 use Rattle.worked.specs.Questions.{asking, reasoned, Row, row}
 
@@ -47,7 +48,11 @@ abbrev pub in_order : List ℕ
 in_order = 0 ∷ 1 ∷ 2 ∷ 3 ∷ 4 ∷ 5 ∷ 6 ∷ 7 ∷ []
 
 abbrev pub finds : List ℕ → ℕ → List ℕ → Finding → Row
-finds f k c w = row (asking f k c) (reasoned w)
+finds f k c w = row (asking f k c) (reasoned (Ok w))
+
+-- refused with this number
+abbrev pub refuses : List ℕ → ℕ → List ℕ → ℕ → Row
+refuses f k c j = row (asking f k c) (reasoned (Err (named j)))
 
 abbrev pub asked : List Row
 asked =
@@ -92,9 +97,9 @@ asked =
     -- 6
     finds mixed 8 in_order TwoParts ∷
     -- another kind, whatever the numbers; a file that is refused, whatever the kind
-    finds file_c 7 in_order (Refused 16) ∷
-    finds file_c 0 (8 ∷ 8 ∷ 8 ∷ 8 ∷ 8 ∷ 8 ∷ 8 ∷ 8 ∷ []) (Refused 16) ∷
-    finds turned 8 in_order (Refused 7) ∷
-    finds (fan (joins 0 1 2 3 ∷ joins 1 2 0 4 ∷ [])) 7 in_order (Refused 9) ∷
-    finds [] 9 in_order (Refused 1) ∷
+    refuses file_c 7 in_order 16 ∷
+    refuses file_c 0 (8 ∷ 8 ∷ 8 ∷ 8 ∷ 8 ∷ 8 ∷ 8 ∷ 8 ∷ []) 16 ∷
+    refuses turned 8 in_order 7 ∷
+    refuses (fan (joins 0 1 2 3 ∷ joins 1 2 0 4 ∷ [])) 7 in_order 9 ∷
+    refuses [] 9 in_order 1 ∷
     []

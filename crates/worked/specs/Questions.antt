@@ -1,14 +1,14 @@
 -- The questions that rows ask, the answers by the definitions, and when rows hold.
 -- Assumes nothing.
-use Rattle.std.specs.Prelude.{ℕ, ◌≡◌, List, map, eqb, ℤ, length}
+use Rattle.std.specs.Prelude.{ℕ, ◌≡◌, List, map, eqb, ℤ, length, Option, Result}
 use Rattle.base.specs.Lists.{keep, equal}
 use Rattle.space.specs.Box.{box}
 use Rattle.space.specs.Mesh.{Mesh, point}
 use Rattle.layout.specs.Layout.{vertices, decoded}
 use Rattle.arrays.specs.Refusals.{refusals, checked}
-use Rattle.arrays.specs.declared.Checked.{Checked}
+use Rattle.arrays.specs.declared.Counts.{Counts}
+use Rattle.refusals.specs.declared.Refusal.{Refusal}
 use Rattle.templates.specs.Tables.{Template, at}
-use Rattle.turning.specs.declared.Least.{Least}
 use Rattle.turning.specs.Form.{least_form, least_number}
 use Rattle.cells.specs.Cells.{box_at, first_failing}
 use Rattle.cells.specs.Full.{Cell, cells_of, full_list}
@@ -18,7 +18,6 @@ use Rattle.reasons.specs.declared.Finding.{Finding}
 use Rattle.why.specs.Why.{explained}
 use Rattle.encoding.specs.File.{file_of}
 use Rattle.packing.specs.Packed.{packed, room_after}
-use Rattle.packing.specs.declared.Written.{Written}
 
 pub data Question : Type 0 where
   -- the full list of a mesh; how many cells of each of these kinds; the cells with exactly these tetrahedra
@@ -47,14 +46,14 @@ pub data Reply : Type 0 where
   counted : List ℕ → Reply
   judged : List ℤ → ℕ → Reply
   -- a least form or a refusal, with the refusal's number
-  formed : ℕ → Least → Reply
-  told : Checked → Reply
+  formed : ℕ → Option (List ℕ) → Reply
+  told : Result Counts Refusal → Reply
   -- the answer, and what the table and the room hold afterwards
   left : Answer → (table room : List ℕ) → Reply
   boxed : ℤ → Reply
-  reasoned : Finding → Reply
+  reasoned : Result Finding Refusal → Reply
   -- the answer, and what the room holds afterwards
-  packed_to : Written → (room : List ℕ) → Reply
+  packed_to : Result ℕ Refusal → (room : List ℕ) → Reply
 
 unfoldable pub counts : List ℕ → List Cell → List ℕ
 counts ks ds = map (λ k. length (keep (λ d. eqb d.kind k) ds)) ks

@@ -2,14 +2,13 @@
 -- fail; least forms; from the bytes of their files the check's answer, calls of `portion`, boxes and why tuples are not
 -- cells; and from lists their files.
 -- Assumes nothing.
-use Rattle.std.specs.Prelude.{ℕ, true, false, List, [], ◌∷◌, ◌++◌, ℤ, pos, negsuc, length, take, replicate}
-use Rattle.arrays.specs.declared.Checked.TheVariants.{Accepted, Refused}
+use Rattle.std.specs.Prelude.{ℕ, true, false, List, [], ◌∷◌, ◌++◌, ℤ, pos, negsuc, length, take, replicate, None, Some, Ok, Err}
+use Rattle.refusals.specs.Named.{named}
+use Rattle.arrays.specs.Refusals.{accepted as counted_as}
 use Rattle.templates.specs.Tables.{hexahedron, pyramid}
-use Rattle.turning.specs.declared.Least.TheVariants.{Form, Refused as NoForm}
 use Rattle.cells.specs.Full.{cell}
 use Rattle.portions.specs.Portions.{Answer, refused, given, records}
 use Rattle.rule.specs.Rule.{tet_rule}
-use Rattle.packing.specs.declared.Written.TheVariants.{Whole, Refused as Unwritten}
 use Rattle.worked.specs.Files.{header, vertex, joins, file, minus, tent, cube, fan, lone, file_p, file_c, mixed, turned}
 use Rattle.worked.specs.Lists.{coords_p, numbers_p, coords_c, numbers_c, coords_fan, still, noughts}
 use Rattle.worked.specs.Meshes.{mesh_p, mesh_p', mesh_c, mesh_c', cell_c, list_p, list_p', list_c}
@@ -86,24 +85,24 @@ lists =
 -- of each kind, unused places counting for nothing; then another kind, and two equal corners of each kind
 abbrev pub forms : List Row
 forms =
-    row (least 8 (1 ∷ 2 ∷ 3 ∷ 0 ∷ 5 ∷ 6 ∷ 7 ∷ 4 ∷ [])) (formed 0 (Form 0 1 2 3 4 5 6 7)) ∷
-    row (least 6 (5 ∷ 4 ∷ 3 ∷ 2 ∷ 1 ∷ 0 ∷ 3 ∷ 3 ∷ [])) (formed 0 (Form 0 1 2 3 4 5 0 0)) ∷
-    row (least 5 (9 ∷ 4 ∷ 7 ∷ 2 ∷ 3 ∷ 9 ∷ 9 ∷ 2 ∷ [])) (formed 0 (Form 2 9 4 7 3 0 0 0)) ∷
-    row (least 7 (0 ∷ 1 ∷ 2 ∷ 3 ∷ 4 ∷ 5 ∷ 6 ∷ 7 ∷ [])) (formed 13 NoForm) ∷
-    row (least 0 (0 ∷ 1 ∷ 2 ∷ 3 ∷ 4 ∷ 5 ∷ 6 ∷ 7 ∷ [])) (formed 13 NoForm) ∷
-    row (least 8 (0 ∷ 1 ∷ 2 ∷ 3 ∷ 4 ∷ 5 ∷ 6 ∷ 0 ∷ [])) (formed 13 NoForm) ∷
-    row (least 6 (3 ∷ 1 ∷ 2 ∷ 1 ∷ 4 ∷ 5 ∷ 6 ∷ 7 ∷ [])) (formed 13 NoForm) ∷
-    row (least 5 (0 ∷ 1 ∷ 2 ∷ 3 ∷ 0 ∷ 5 ∷ 6 ∷ 7 ∷ [])) (formed 13 NoForm) ∷
+    row (least 8 (1 ∷ 2 ∷ 3 ∷ 0 ∷ 5 ∷ 6 ∷ 7 ∷ 4 ∷ [])) (formed 0 (Some (0 ∷ 1 ∷ 2 ∷ 3 ∷ 4 ∷ 5 ∷ 6 ∷ 7 ∷ []))) ∷
+    row (least 6 (5 ∷ 4 ∷ 3 ∷ 2 ∷ 1 ∷ 0 ∷ 3 ∷ 3 ∷ [])) (formed 0 (Some (0 ∷ 1 ∷ 2 ∷ 3 ∷ 4 ∷ 5 ∷ 0 ∷ 0 ∷ []))) ∷
+    row (least 5 (9 ∷ 4 ∷ 7 ∷ 2 ∷ 3 ∷ 9 ∷ 9 ∷ 2 ∷ [])) (formed 0 (Some (2 ∷ 9 ∷ 4 ∷ 7 ∷ 3 ∷ 0 ∷ 0 ∷ 0 ∷ []))) ∷
+    row (least 7 (0 ∷ 1 ∷ 2 ∷ 3 ∷ 4 ∷ 5 ∷ 6 ∷ 7 ∷ [])) (formed 13 None) ∷
+    row (least 0 (0 ∷ 1 ∷ 2 ∷ 3 ∷ 4 ∷ 5 ∷ 6 ∷ 7 ∷ [])) (formed 13 None) ∷
+    row (least 8 (0 ∷ 1 ∷ 2 ∷ 3 ∷ 4 ∷ 5 ∷ 6 ∷ 0 ∷ [])) (formed 13 None) ∷
+    row (least 6 (3 ∷ 1 ∷ 2 ∷ 1 ∷ 4 ∷ 5 ∷ 6 ∷ 7 ∷ [])) (formed 13 None) ∷
+    row (least 5 (0 ∷ 1 ∷ 2 ∷ 3 ∷ 0 ∷ 5 ∷ 6 ∷ 7 ∷ [])) (formed 13 None) ∷
     []
 
 -- ---- the answer of the check
 
 -- a file that is accepted with these counts, and one that is refused with this number
 abbrev accept : List ℕ → ℕ → ℕ → Row
-accept f n t = row (checking f) (told (Accepted n t))
+accept f n t = row (checking f) (told (counted_as n t))
 
 abbrev refuse : List ℕ → ℕ → Row
-refuse f k = row (checking f) (told (Refused k))
+refuse f k = row (checking f) (told (Err (named k)))
 
 abbrev pub accepted : List Row
 accepted =
@@ -228,11 +227,11 @@ calls =
 
 -- the file in a room of so many bytes, and in one with more
 abbrev pub packs : List ℤ → List ℕ → List ℕ → List ℕ → ℕ → Row
-packs cs ls ps f more = row (packing cs ls ps (nines (length f) ++ nines more)) (packed_to (Whole (length f)) (f ++ nines more))
+packs cs ls ps f more = row (packing cs ls ps (nines (length f) ++ nines more)) (packed_to (Ok (length f)) (f ++ nines more))
 
 -- nothing is written into so many bytes
 abbrev pub not_packed : List ℤ → List ℕ → List ℕ → ℕ → ℕ → Row
-not_packed cs ls ps room x = row (packing cs ls ps (nines room)) (packed_to (Unwritten x) (nines room))
+not_packed cs ls ps room x = row (packing cs ls ps (nines room)) (packed_to (Err (named x)) (nines room))
 
 abbrev pub packings : List Row
 packings =

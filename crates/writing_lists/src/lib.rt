@@ -8,15 +8,11 @@ ghost use Rattle.writing_lists.specs.Printed.{signed_text, apart, line_of};
 
 use lines::{put_decimal, put_text};
 
-// How far a number is from 0. The least one has no i64 above 0 of its size, so 1 is put aside.
+// How far a number is from 0.
 pub fn size_of(z: i64) -> u64
     ensures { result ≡ nat_abs z }
 {
-    if z < 0 {
-        (0 - (z + 1)) as u64 + 1
-    } else {
-        z as u64
-    }
+    z.unsigned_abs()
 }
 
 // Puts a number, with its sign below 0.
@@ -50,10 +46,8 @@ fn put_apart(out: &mut [u8], from: usize, numbers: &[i64]) -> usize
     ensures text { Laid from (spread apart numbers.now) out.old out.new }
 {
     let mut at = from;
-    let mut i = 0;
-    while i < numbers.len() {
-        at = put_next(out, at, numbers[i]);
-        i += 1;
+    for z in numbers {
+        at = put_next(out, at, *z);
     }
     at
 }

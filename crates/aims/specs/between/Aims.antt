@@ -1,9 +1,10 @@
 -- Looking ahead: what is known of the vertices that link the first three corners of a tuple,
 -- and so cannot link the faces to come.
 -- Assumes nothing.
-use Rattle.std.specs.Prelude.{ℕ, ◌+◌, ◌≡◌, ◌⊎◌, Bool, true, false, List, get_or}
+use Rattle.std.specs.Prelude.{ℕ, ◌+◌, ◌≡◌, ◌⊎◌, Bool, true, false, Option, Some, None, List, get_or}
 use Rattle.reaching.specs.declared.FaceEdge.{FaceEdge}
 use Rattle.reaching.specs.between.Reaching.{Links}
+use Rattle.aims.specs.declared.Aim.{Aim}
 
 -- the edge from w to u, and what may not link w and the next corner at u
 abbrev pub face_edge : ℕ → ℕ → ℕ → ℕ → ℕ → ℕ → FaceEdge
@@ -27,3 +28,8 @@ pub record Aims (first : ℕ → Type 0) (x : ℕ) (some both : Bool) (o p : ℕ
   pub none : some ≡ false → (x ≡ 3) × ((y : ℕ) → first y → ⊥)
   pub each : both ≡ true → (o ≡ p) × ((p ≡ 65535) ⊎ ((x ≡ 16) ⊎ ((x ≡ 3) × ((y : ℕ) → first y → y ≡ p))))
   pub either : both ≡ false → ((x ≡ 3) ⊎ (x ≡ 11)) × ((o ≡ p) ⊎ ((x ≡ 3) × ((y : ℕ) → first y → (y ≡ o) ⊎ (y ≡ p))))
+
+-- the same of an aim, or of none
+abbrev pub AimsOf : (ℕ → Type 0) → ℕ → Option Aim → Type 0
+AimsOf first x None = Aims first x false true 65535 65535
+AimsOf first x (Some a) = Aims first x true a.both a.o.0 a.p.0

@@ -10,26 +10,24 @@ use Rattle.std.proofs.lemmas.Bool.{not_from_false, not_from_true}
 use Rattle.arrays.proofs.header.Goals as goal
 
 pub returns-then-not-length_right : goal.returns-then-not-length_right
-returns-then-not-length_right c = answer-refused _ (told (ap not c.length_right.ensures) 1 _ (not_from_false _ c.if-not-length_right.true)) (omega arith)
+returns-then-not-length_right c = answer-refused c.args.file.now (told (ap not c.length_right.ensures) 1 _ (not_from_false _ c.if-not-length_right.true))
 
 pub counts_right-requires : goal.counts_right-requires
 counts_right-requires c = (length-says _ (let it : length_right c.args.file.now ≡ true = sym c.length_right.ensures ∙ c.if-not-length_right.false in it)).least
 
 pub returns-then-not-counts_right : goal.returns-then-not-counts_right
-returns-then-not-counts_right c = answer-refused _
+returns-then-not-counts_right c = answer-refused c.args.file.now
     (past (ap not c.length_right.ensures) 1 _ (not_from_true _ c.if-not-length_right.false)
     (told (ap not c.counts_right.ensures) 2 _ (not_from_false _ c.if-not-counts_right.true)))
-    (omega arith)
 
 pub layout_right-requires : goal.layout_right-requires
 layout_right-requires c = let k = counts_say _ (let it : counts_right c.args.file.now ≡ true = sym c.counts_right.ensures ∙ c.if-not-counts_right.false in it) in ((length-says _ (let it : length_right c.args.file.now ≡ true = sym c.length_right.ensures ∙ c.if-not-length_right.false in it)).least, (k.vertex, k.tet))
 
 pub returns-then-not-layout_right : goal.returns-then-not-layout_right
-returns-then-not-layout_right c = answer-refused _
+returns-then-not-layout_right c = answer-refused c.args.file.now
     (past (ap not c.length_right.ensures) 1 _ (not_from_true _ c.if-not-length_right.false)
     (past (ap not c.counts_right.ensures) 2 _ (not_from_true _ c.if-not-counts_right.false)
     (told (ap not c.layout_right.ensures) 3 _ (not_from_false _ c.if-not-layout_right.true))))
-    (omega arith)
 
 pub u32_at-requires : goal.u32_at-requires
 u32_at-requires c = let l = length-says _ (let it : length_right c.args.file.now ≡ true = sym c.length_right.ensures ∙ c.if-not-length_right.false in it) in omega arith
@@ -38,7 +36,7 @@ pub u32_at-requires-2 : goal.u32_at-requires-2
 u32_at-requires-2 c = let l = length-says _ (let it : length_right c.args.file.now ≡ true = sym c.length_right.ensures ∙ c.if-not-length_right.false in it) in omega arith
 
 pub returns : goal.returns
-returns c = answer-accepted _
+returns c = answer-accepted c.args.file.now
     (past (ap not c.length_right.ensures) 1 _ (not_from_true _ c.if-not-length_right.false)
     (past (ap not c.counts_right.ensures) 2 _ (not_from_true _ c.if-not-counts_right.false)
     (past (ap not c.layout_right.ensures) 3 _ (not_from_true _ c.if-not-layout_right.false) none_left)))

@@ -1,5 +1,4 @@
 -- `candidates::enter` meets its contract. Assumes nothing.
-use Prim.Native.Nat.{◌-◌}
 use native.Mathlib.Omega.{arith}
 use Rattle.candidates.proofs.Meeting.{halved_none, halved_up, halved_down, entered_here}
 use Rattle.candidates.proofs.enter.Goals as goal

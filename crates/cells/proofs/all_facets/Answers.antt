@@ -1,23 +1,11 @@
 -- `cells::all_facets` meets its contract. Assumes nothing.
-use mathlib.Core.Path.{refl, sym, ◌∙◌}
-use Prim.Native.Nat.{◌-◌}
-use borrow.Author.Tests.{not-true, not-false}
-use Rattle.base.proofs.Loop.{all_start, all-next, all-fails, all_done}
-use native.Mathlib.Omega.{arith}
-use Rattle.std.proofs.lemmas.Bool.{not_from_false, not_from_true}
+use Prim.Native.Nat.{◌/◌}
+use lib.ListN.{length}
+use Rattle.std.proofs.Common.{rules}
+use Rattle.templates.proofs.Rows.{all_rows}
+use Rattle.cells.specs.between.Rows.{row3, facet_in}
 use Rattle.cells.proofs.all_facets.Goals as goal
 
-pub loop-i-init : goal.loop-i-init
-loop-i-init c = (refl, all_start)
-
-pub facet-requires : goal.facet-requires
-facet-requires c = record { indexed = c.requires; i_in_bounds = omega arith }
-
-pub returns-then-not-facet : goal.returns-then-not-facet
-returns-then-not-facet c = all-fails c.loop-i.invariant.1 (omega arith) (sym c.facet.ensures ∙ not-true _ (not_from_false _ c.if-not-facet.true))
-
-pub loop-i-preserved : goal.loop-i-preserved
-loop-i-preserved c = (refl, all-next c.loop-i.invariant.1 (omega arith) (sym c.facet.ensures ∙ not-false _ (not_from_true _ c.if-not-facet.false)))
-
 pub returns : goal.returns
-returns c = all_done c.loop-i.invariant.1 (omega arith)
+returns c = let a = c.args in
+    all_rows (facet_in a.ix.now.labels.now a.c.now) (row3 a.rows.now) (length a.rows.now / 3) c.all.ensures.ran (λ x b q g. search rules)

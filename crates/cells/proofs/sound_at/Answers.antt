@@ -15,5 +15,5 @@ returns c = rw (to_z-of_z w64 c.volume.result (search rules))
       c.point_at-q.ensures.0,
       c.point_at-r.ensures.0,
       c.point_at-s.ensures.0,
-      c.corners4-k.ensures,
+      c.corners_at-k.ensures,
     ))

@@ -7,20 +7,20 @@ use Rattle.combine.proofs.show_cells.Goals as goal
 
 pub loop-i-init : goal.loop-i-init
 unfolding cell_lines
-loop-i-init g c = record { within = omega arith; place = omega arith; room = refl; lines = ([], Appends-nil _, refl) }
+loop-i-init g c = record { within = omega arith; place = omega arith; room = c.told-out; lines = ([], Appends-nil _, refl) }
 
 pub loop-i-preserved : goal.loop-i-preserved
 loop-i-preserved g c =
     let i = c.loop-i.invariant.lines in
-    let f = c.flushed-next.ensures (omega arith) in
+    let f = c.in_ok-next.ensures in
     let p = c.put_cell-at.ensures in
     record {
       within = omega arith;
-      place = omega (arith, p.next, p.text.room, c.loop-i.invariant.room);
+      place = omega (arith, f.0, p.next, p.text.room, c.loop-i.invariant.room);
       room = p.text.same ∙ c.loop-i.invariant.room;
       lines = (
-        i.0 ++ f.0,
-        Appends-trans _ _ _ _ _ i.1 f.1,
-        joined _ _ _ _ _ _ _ (laid_front p.text p.next) f.2 i.2 ∙ sym (one_more c.args.records.now c.loop-i.i),
+        i.0 ++ f.1,
+        Appends-trans _ _ _ _ _ i.1 f.2,
+        joined _ _ _ _ _ _ _ (laid_front p.text p.next) f.3 i.2 ∙ sym (one_more c.args.records.now c.loop-i.i),
       );
     }

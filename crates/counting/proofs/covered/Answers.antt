@@ -24,10 +24,10 @@ sides_of-bde-requires c = let l = low_below c.args.quads.now c.requires.1.1 in
 pub returns-then-is_diagonal : goal.returns-then-is_diagonal
 unfolding one_diagonal other_diagonal is_diagonal
 returns-then-is_diagonal c = let e = sym c.is_diagonal.ensures ∙ c.if-is_diagonal.true in
-    sym (rw (rw (c.sides_of-abd.ensures, c.sides_of-ade.ensures, c.sides_of-abe.ensures, c.sides_of-bde.ensures) at e))
+    c.if-is_diagonal.true ∙ sym (rw (rw (c.sides_of-abd.ensures, c.sides_of-ade.ensures, c.sides_of-abe.ensures, c.sides_of-bde.ensures) at e))
 
-pub returns : goal.returns
+pub returns-else-is_diagonal : goal.returns-else-is_diagonal
 unfolding one_diagonal other_diagonal is_diagonal
-returns c = let e = sym c.is_diagonal.ensures ∙ c.if-is_diagonal.false in
-    (rw (c.sides_of-abd.ensures, c.sides_of-ade.ensures, c.sides_of-abe.ensures, c.sides_of-bde.ensures) at c.is_diagonal-2.ensures) ∙
+returns-else-is_diagonal c = let e = sym c.is_diagonal.ensures ∙ c.if-is_diagonal.false in
+    (rw (c.sides_of-abd.ensures, c.sides_of-ade.ensures, c.sides_of-abe.ensures, c.sides_of-bde.ensures) at c.is_diagonal-else-is_diagonal.ensures) ∙
     sym (rw (rw (c.sides_of-abd.ensures, c.sides_of-ade.ensures, c.sides_of-abe.ensures, c.sides_of-bde.ensures) at e))

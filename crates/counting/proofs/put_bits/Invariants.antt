@@ -6,7 +6,4 @@ use Rattle.counting.specs.between.Bits.{bit_of}
 use Rattle.counting.proofs.put_bits.Given as goal
 
 abbrev pub invariant-loop-x : goal.invariant-loop-x
-invariant-loop-x l = (length l.has ≡ length l.initial.has) × ((l.x ≤ l.n) × ((y : ℕ) → y < l.x → get_or l.has y 0 ≡ bit_of l.labels l.c (get_or l.list (y / 8) 0) (y % 8)))
-
-abbrev pub decreases-loop-x : goal.decreases-loop-x
-decreases-loop-x l = l.n - l.x
+invariant-loop-x l = (length l.has ≡ length l.initial.has) × ((y : ℕ) → y < l.x → get_or l.has y 0 ≡ bit_of l.labels l.c (get_or l.list (y / 8) 0) (y % 8))

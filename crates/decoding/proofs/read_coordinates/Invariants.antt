@@ -14,6 +14,3 @@ At part k = i32_at part (4 * k)
 
 abbrev pub invariant-loop-k : goal.invariant-loop-k
 invariant-loop-k l = Filled (At l.part) (pos 0) (length l.initial.coords) l.k l.coords
-
-abbrev pub decreases-loop-k : goal.decreases-loop-k
-decreases-loop-k l = length l.initial.coords - l.k

@@ -15,6 +15,3 @@ PartAt part j = u16_at part (10 * j + 8)
 
 abbrev pub invariant-loop-j : goal.invariant-loop-j
 invariant-loop-j l = Filled (At l.part) 0 (length l.initial.labels) (4 * l.j) l.labels × Filled (PartAt l.part) 0 (length l.initial.parts) l.j l.parts
-
-abbrev pub decreases-loop-j : goal.decreases-loop-j
-decreases-loop-j l = length l.initial.parts - l.j

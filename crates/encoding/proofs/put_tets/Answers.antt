@@ -1,11 +1,8 @@
--- `encoding::put_tets` meets its contract. The loop's invariant: the tetrahedra passed are laid from `from` on.
--- Assumes nothing.
-use mathlib.Core.Path.{◌≡◌, refl, ap}
-use Prim.Native.Nat.{◌-◌}
+-- `encoding::put_tets` meets its contract: a tetrahedron more is laid behind the others. Assumes nothing.
+use mathlib.Core.Path.{refl}
 use native.Mathlib.Omega.{arith}
-use lib.ListN.{length}
 use Rattle.base.specs.Lists.{spread, up_to}
-use Rattle.base.proofs.Lay.{laid_none, laid_more, laid_as}
+use Rattle.base.proofs.Lay.{laid_none, laid_more}
 use Rattle.base.proofs.Loop.{length_from}
 use Rattle.encoding.specs.File.{tet_bytes}
 use Rattle.base.proofs.Runs.{spread-up}
@@ -15,16 +12,8 @@ use Rattle.encoding.proofs.put_tets.Goals as goal
 
 pub loop-j-init : goal.loop-j-init
 unfolding spread
-loop-j-init c = (omega arith, laid_none c.args.from _ c.args.out.now refl (omega arith))
+loop-j-init c = laid_none c.args.from _ c.args.out.now refl (omega arith)
 
 pub loop-j-preserved : goal.loop-j-preserved
-loop-j-preserved c = let a = c.args in let t = tet_bytes a.numbers.now a.parts.now in (
-  omega arith,
-  laid_more c.loop-j.invariant.1 _ (omega (arith, length-spread t 10 (tet-long a.numbers.now a.parts.now) (up_to c.loop-j.j), length_from 0 c.loop-j.j)) c.put_tet.ensures (spread-up t c.loop-j.j),
-)
-
-pub shape_of-out : goal.shape_of-out
-shape_of-out c = c.loop-j.invariant.1.same
-
-pub returns : goal.returns
-returns c = let l = c.loop-j in let a = c.args in laid_as l.invariant.1 (ap (λ k. spread (tet_bytes a.numbers.now a.parts.now) (up_to k)) (let e : l.j ≡ length a.parts.now = omega arith in e))
+loop-j-preserved c = let a = c.args in let t = tet_bytes a.numbers.now a.parts.now in
+    laid_more c.loop-j.invariant _ (omega (arith, length-spread t 10 (tet-long a.numbers.now a.parts.now) (up_to c.loop-j.j), length_from 0 c.loop-j.j)) c.put_tet.ensures (spread-up t c.loop-j.j)

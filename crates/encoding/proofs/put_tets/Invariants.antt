@@ -1,14 +1,8 @@
--- `encoding::put_tets` meets its contract. The loop's invariant: the tetrahedra passed are laid from `from` on.
--- Assumes nothing.
-use Prim.Native.Nat.{◌-◌, ◌≤◌}
-use lib.ListN.{length}
+-- The loop's invariant: the tetrahedra passed are laid from `from` on. Assumes nothing.
 use Rattle.base.specs.Lists.{spread, up_to}
 use Rattle.base.specs.Laid.{Laid}
 use Rattle.encoding.specs.File.{tet_bytes}
 use Rattle.encoding.proofs.put_tets.Given as goal
 
 abbrev pub invariant-loop-j : goal.invariant-loop-j
-invariant-loop-j l = (l.j ≤ length l.parts) × Laid l.from (spread (tet_bytes l.numbers l.parts) (up_to l.j)) l.initial.out l.out
-
-abbrev pub decreases-loop-j : goal.decreases-loop-j
-decreases-loop-j l = length l.parts - l.j
+invariant-loop-j l = Laid l.from (spread (tet_bytes l.numbers l.parts) (up_to l.j)) l.initial.out l.out

@@ -5,4 +5,4 @@ use Rattle.facet_hints.proofs.quad_hinted.Goals as goal
 
 pub returns : goal.returns
 unfolding one_diagonal other_diagonal
-returns c = c.split_hinted.ensures ∙ rw c.corners4-q.ensures
+returns c = c.split_hinted.ensures ∙ rw c.corners_at-q.ensures

@@ -1,6 +1,5 @@
 -- `facet_hints::quads_hinted` meets its contract. Assumes nothing.
 use mathlib.Core.Path.{refl, sym, ◌∙◌}
-use Prim.Native.Nat.{◌-◌}
 use borrow.Author.Tests.{not-true, not-false}
 use native.Mathlib.Omega.{arith}
 use Rattle.base.proofs.Loop.{all_start, all-next, all-fails, all_done}
@@ -9,9 +8,6 @@ use Rattle.facet_hints.proofs.quads_hinted.Goals as goal
 
 pub loop-i-init : goal.loop-i-init
 loop-i-init c = (refl, all_start)
-
-pub quad_hinted-requires : goal.quad_hinted-requires
-quad_hinted-requires c = (c.requires, omega arith)
 
 pub returns-then-not-quad_hinted : goal.returns-then-not-quad_hinted
 returns-then-not-quad_hinted c = all-fails c.loop-i.invariant.1 (omega arith) (sym c.quad_hinted.ensures ∙ not-true _ (not_from_false _ c.if-not-quad_hinted.true))

@@ -3,4 +3,4 @@ use mathlib.Core.Path.{◌∙◌}
 use Rattle.facet_hints.proofs.triangle_hinted.Goals as goal
 
 pub returns : goal.returns
-returns c = c.is_hinted.ensures ∙ rw c.corners3-f.ensures
+returns c = c.is_hinted.ensures ∙ rw c.corners_at-f.ensures

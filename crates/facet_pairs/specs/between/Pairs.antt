@@ -2,12 +2,11 @@
 -- A number is a tetrahedron's plus one, and 0 for none; the second is 65,535 where there are more than two.
 -- Other three may have the same place.
 -- Assumes nothing.
-use Rattle.std.specs.Prelude.{ℕ, ◌+◌, ◌*◌, ◌/◌, ◌%◌, ◌<◌, ◌≡◌, ◌⊎◌, true, false, List, [], ◌∷◌, length, get_or}
+use Rattle.std.specs.Prelude.{ℕ, ◌+◌, ◌*◌, ◌/◌, ◌%◌, ◌<◌, ◌≡◌, ◌⊎◌, true, List, [], ◌∷◌, length, get_or, Option, Some}
 use Rattle.base.specs.Lists.{distinct}
 use Rattle.base.specs.between.Stores.{Stores}
 use Rattle.space.specs.between.Hash.{hash3}
 use Rattle.tets_around.specs.Sharing.{has_all}
-use Rattle.facet_pairs.specs.declared.Pair.{Pair}
 
 -- the place of three vertices, in whatever order they are named
 unfoldable pub pair_place : ℕ → ℕ → ℕ → ℕ
@@ -23,8 +22,8 @@ pub record PairsOf (ls ps : List ℕ) : Type 0 where
   pub told : (m a b c : ℕ) → m < length ls / 4 → distinct (a ∷ b ∷ c ∷ []) ≡ true → has_all ls (a ∷ b ∷ c ∷ []) m ≡ true → StandsAt ps (pair_place a b c) m
 
 -- where there are not more, the tetrahedra with these three vertices are among the two
-pub record Names (ls : List ℕ) (a b c : ℕ) (r : Pair) : Type 0 where
-  pub among : r.many ≡ false → (m : ℕ) → m < length ls / 4 → has_all ls (a ∷ b ∷ c ∷ []) m ≡ true → (r.one ≡ m + 1) ⊎ (r.two ≡ m + 1)
+pub record Names (ls : List ℕ) (a b c : ℕ) (r : Option (ℕ × ℕ)) : Type 0 where
+  pub among : (pair : ℕ × ℕ) → r ≡ Some pair → (m : ℕ) → m < length ls / 4 → has_all ls (a ∷ b ∷ c ∷ []) m ≡ true → (pair.0 ≡ m + 1) ⊎ (pair.1 ≡ m + 1)
 
 -- ── what the stores do ──
 

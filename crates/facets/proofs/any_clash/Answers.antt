@@ -1,22 +1,18 @@
 -- `facets::any_clash` meets its contract. Assumes nothing.
 use mathlib.Core.Path.{sym, ◌∙◌, ap}
-use Prim.Native.Nat.{◌-◌}
 use native.Mathlib.Omega.{arith}
 use Rattle.base.specs.Lists.{any}
-use Rattle.base.proofs.Loop.{any-start, any_next, any_found, any-done, listed}
+use Rattle.base.proofs.Loop.{any_next, any_found, any-done, listed}
 use Rattle.facets.proofs.any_clash.Goals as goal
 
-pub loop-k-init : goal.loop-k-init
-loop-k-init c = any-start
-
 pub does_clash-requires : goal.does_clash-requires
-does_clash-requires c = record { close = c.requires.close; m_in_bounds = omega (arith, c.requires.within.below c.loop-k.k (omega arith)) }
+does_clash-requires c = record { close = c.requires.close; m_in_bounds = omega (arith, c.requires.within.below c.loop-m.m-index (omega arith)) }
 
 pub returns-then-does_clash : goal.returns-then-does_clash
-returns-then-does_clash c = any_found c.loop-k.invariant (omega arith) (sym c.does_clash.ensures ∙ c.if-does_clash.true) ∙ ap (any _) (listed 0 c.args.row.now)
+returns-then-does_clash c = any_found c.loop-m.invariant (omega arith) (sym c.does_clash.ensures ∙ c.if-does_clash.true) ∙ ap (any _) (listed 0 c.args.row.now)
 
-pub loop-k-preserved : goal.loop-k-preserved
-loop-k-preserved c = any_next c.loop-k.invariant (omega arith) (sym c.does_clash.ensures ∙ c.if-does_clash.false)
+pub loop-m-preserved : goal.loop-m-preserved
+loop-m-preserved c = any_next c.loop-m.invariant (omega arith) (sym c.does_clash.ensures ∙ c.if-does_clash.false)
 
 pub returns : goal.returns
-returns c = any-done c.loop-k.invariant (omega arith) ∙ ap (any _) (listed 0 c.args.row.now)
+returns c = any-done c.loop-m.invariant (omega arith) ∙ ap (any _) (listed 0 c.args.row.now)

@@ -1,6 +1,6 @@
 -- What is asked at a facet as the code hands it on, and what one trial of a tetrahedron there tells.
 -- Assumes nothing.
-use Rattle.std.specs.Prelude.{ℕ, ◌+◌, ◌/◌, ◌<◌, ◌≡◌, Bool, true, List, ℤ, length}
+use Rattle.std.specs.Prelude.{ℕ, ◌+◌, ◌*◌, ◌/◌, ◌<◌, ◌≡◌, Bool, true, List, [], ◌∷◌, ℤ, length, get_or}
 use Rattle.space.specs.declared.Vertex.{Vertex}
 use Rattle.space.specs.declared.Tet.{Tet}
 use Rattle.facets.specs.declared.Facet.{Facet}
@@ -8,6 +8,15 @@ use Rattle.facets.specs.Facets.{clashes, clashing}
 
 abbrev pub facet_of : Tet → Vertex → Vertex → Vertex → Vertex → Facet
 facet_of e u a b c = record { e = e; u = u; a = a; b = b; c = c }
+
+-- the four facets of a tetrahedron
+abbrev pub facets_of : List ℕ → Tet → List Facet
+facets_of ls e =
+    let a : Vertex = record { 0 = get_or ls (4 * e.0) 0 } in
+    let b : Vertex = record { 0 = get_or ls (4 * e.0 + 1) 0 } in
+    let c : Vertex = record { 0 = get_or ls (4 * e.0 + 2) 0 } in
+    let d : Vertex = record { 0 = get_or ls (4 * e.0 + 3) 0 } in
+    facet_of e a b c d ∷ facet_of e b a c d ∷ facet_of e c a b d ∷ facet_of e d a b c ∷ []
 
 abbrev pub at_facet : {A : Type 0} → (ℕ → ℕ → ℕ → ℕ → A) → Facet → A
 at_facet q f = q f.u.0 f.a.0 f.b.0 f.c.0

@@ -1,23 +1,17 @@
 -- `failing::box_in` meets its contract. Assumes nothing.
-use mathlib.Core.Path.{refl, sym, ◌∙◌}
-use Prim.Native.Nat.{◌-◌}
-use native.Mathlib.Omega.{arith}
-use borrow.Author.Tests.{not-true, not-false}
-use Rattle.reasons.proofs.First.{fail_start, fail_next, fail_found, fail_done}
-use Rattle.std.proofs.lemmas.Bool.{not_from_false, not_from_true}
+use Rattle.std.proofs.Common.{rules, ◌∙◌, sym, ◌/◌, length}
+use Rattle.base.specs.Lists.{up_to}
+use Rattle.std.specs.Prelude.{List, ℕ, Bool}
+use Rattle.space.specs.Box.{is_above0}
+use Rattle.space.specs.Arrays.{row4}
+use Rattle.templates.specs.Tables.{at}
+use Rattle.cells.specs.Cells.{box_of}
+use Rattle.cells.specs.between.Rows.{points_of}
+use Rattle.reasons.proofs.First.{fail_map}
 use Rattle.failing.proofs.box_in.Goals as goal
 
-pub loop-i-init : goal.loop-i-init
-loop-i-init c = (refl, fail_start)
-
-pub sound_at-requires : goal.sound_at-requires
-sound_at-requires c = (omega arith, c.requires)
-
-pub returns-then-not-sound_at : goal.returns-then-not-sound_at
-returns-then-not-sound_at c = fail_found c.loop-i.invariant.1 (omega arith) (sym c.sound_at.ensures ∙ not-true _ (not_from_false _ c.if-not-sound_at.true))
-
-pub loop-i-preserved : goal.loop-i-preserved
-loop-i-preserved c = (refl, fail_next c.loop-i.invariant.1 (omega arith) (sym c.sound_at.ensures ∙ not-false _ (not_from_true _ c.if-not-sound_at.false)))
-
 pub returns : goal.returns
-returns c = fail_done c.loop-i.invariant.1 (omega arith)
+returns c =
+    let a = c.args in
+    let q = (let p : List ℕ → Bool = λ ks. is_above0 (box_of (points_of a.coords.now) (at a.c.now ks)) in p) in
+    c.first_fail.ensures (λ i. q (row4 a.rows.now i)) (λ i b low said. search rules) ∙ sym (fail_map q (row4 a.rows.now) (up_to (length a.rows.now / 4)))

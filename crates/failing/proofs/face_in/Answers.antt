@@ -12,10 +12,10 @@ use Rattle.failing.proofs.face_in.Goals as goal
 
 pub returns-then-i-triangles : goal.returns-then-i-triangles
 unfolding is_there
-returns-then-i-triangles c = let s = c.args in face_left (is_there (facet_in s.labels.now s.c.now)) (threes s.triangles.now) (fours s.quads.now) c.facet_in-i.ensures (omega (arith, length_up (row3 s.triangles.now) (length s.triangles.now / 3)))
+returns-then-i-triangles c = let s = c.args in face_left (is_there (facet_in s.ix.now.labels.now s.c.now)) (threes s.triangles.now) (fours s.quads.now) c.facet_in-i.ensures (omega (arith, length_up (row3 s.triangles.now) (length s.triangles.now / 3)))
 
 pub overflow_add-result : goal.overflow_add-result
-overflow_add-result c = let s = c.args in let f = facet_in s.labels.now s.c.now in
+overflow_add-result c = let s = c.args in let f = facet_in s.ix.now.labels.now s.c.now in
     omega (
       arith,
       fail_few f (row3 s.triangles.now) (length s.triangles.now / 3) c.facet_in-i.ensures,
@@ -24,4 +24,4 @@ overflow_add-result c = let s = c.args in let f = facet_in s.labels.now s.c.now 
 
 pub returns : goal.returns
 unfolding is_there
-returns c = let s = c.args in face_right (is_there (facet_in s.labels.now s.c.now)) (threes s.triangles.now) (fours s.quads.now) c.facet_in-i.ensures (omega (arith, length_up (row3 s.triangles.now) (length s.triangles.now / 3))) c.split_in.ensures
+returns c = let s = c.args in face_right (is_there (facet_in s.ix.now.labels.now s.c.now)) (threes s.triangles.now) (fours s.quads.now) c.facet_in-i.ensures (omega (arith, length_up (row3 s.triangles.now) (length s.triangles.now / 3))) c.split_in.ensures

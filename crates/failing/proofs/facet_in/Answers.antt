@@ -1,23 +1,12 @@
 -- `failing::facet_in` meets its contract. Assumes nothing.
-use mathlib.Core.Path.{refl, sym, ◌∙◌}
-use Prim.Native.Nat.{◌-◌}
-use native.Mathlib.Omega.{arith}
-use borrow.Author.Tests.{not-true, not-false}
-use Rattle.reasons.proofs.First.{fail_start, fail_next, fail_found, fail_done}
-use Rattle.std.proofs.lemmas.Bool.{not_from_false, not_from_true}
+use Rattle.std.proofs.Common.{rules, ◌∙◌, sym, ◌/◌, length}
+use Rattle.base.specs.Lists.{up_to}
+use Rattle.cells.specs.between.Rows.{row3, facet_in}
+use Rattle.reasons.proofs.First.{fail_map}
 use Rattle.failing.proofs.facet_in.Goals as goal
 
-pub loop-i-init : goal.loop-i-init
-loop-i-init c = (refl, fail_start)
-
-pub facet-requires : goal.facet-requires
-facet-requires c = record { indexed = c.requires; i_in_bounds = omega arith }
-
-pub returns-then-not-facet : goal.returns-then-not-facet
-returns-then-not-facet c = fail_found c.loop-i.invariant.1 (omega arith) (sym c.facet.ensures ∙ not-true _ (not_from_false _ c.if-not-facet.true))
-
-pub loop-i-preserved : goal.loop-i-preserved
-loop-i-preserved c = (refl, fail_next c.loop-i.invariant.1 (omega arith) (sym c.facet.ensures ∙ not-false _ (not_from_true _ c.if-not-facet.false)))
-
 pub returns : goal.returns
-returns c = fail_done c.loop-i.invariant.1 (omega arith)
+returns c =
+    let a = c.args in
+    let q = facet_in a.ix.now.labels.now a.c.now in
+    c.first_fail.ensures (λ i. q (row3 a.rows.now i)) (λ i b low said. search rules) ∙ sym (fail_map q (row3 a.rows.now) (up_to (length a.rows.now / 3)))

@@ -1,10 +1,9 @@
 -- `failing::first_corner` meets its contract. Assumes nothing.
-use mathlib.Core.Path.{refl, ◌∙◌, ap₂}
+use mathlib.Core.Path.{◌∙◌, ap₂}
 use lib.ListN.{take, length-take}
 use lib.Seq.{length-take-le}
 use native.Mathlib.Omega.{arith}
 use Rattle.templates.specs.Tables.{template_of, tuple_of}
-use Rattle.verdict.proofs.OfKind.{of-kind}
 use Rattle.reasons.specs.First.{first_fail}
 use Rattle.failing.proofs.Short.{short, fits}
 use Rattle.base.specs.Lists.{up_to}
@@ -15,9 +14,9 @@ pub slice_bounds-corner_in-end : goal.slice_bounds-corner_in-end
 slice_bounds-corner_in-end c = simp length-take (omega arith)
 
 pub returns : goal.returns
-returns c = let a = c.args in let w = of-kind a.kind refl c.bounds_of-corners.ensures.value in
+returns c = let a = c.args in let w = c.tables_of-tables.ensures in
     c.corner_in.ensures ∙ ap₂ (λ k l. first_fail (is_new a.n (take k a.tuple.now)) (up_to l)) w.tables.corners
-    (length-take-le _ a.tuple.now (omega (arith, c.bounds_of-corners.ensures.bounds_rise.corners, c.requires)) ∙ w.tables.corners)
+    (length-take-le _ a.tuple.now (omega (arith, c.tables_of-tables.result.few, c.requires)) ∙ w.tables.corners)
 
 pub overflow_cast-result : goal.overflow_cast-result
 overflow_cast-result c = let a = c.args in let h = fits (is_new a.n (tuple_of a.kind a.tuple.now)) (up_to (template_of a.kind).corners) (returns c) (short a.kind).corners in

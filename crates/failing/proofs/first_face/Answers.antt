@@ -3,7 +3,6 @@ use mathlib.Core.Path.{◌∙◌, ap₂}
 use lib.ListN.{take, length-take}
 use native.Mathlib.Omega.{arith}
 use Rattle.templates.specs.Tables.{template_of, tuple_of}
-use Rattle.verdict.proofs.OfKind.{of-kind}
 use Rattle.reasons.specs.First.{first_fail}
 use Rattle.failing.proofs.Short.{short, fits}
 use Rattle.cells.specs.between.Rows.{facet_in}
@@ -14,9 +13,9 @@ pub slice_bounds-face_in-end : goal.slice_bounds-face_in-end
 slice_bounds-face_in-end c = simp length-take (omega arith)
 
 pub returns : goal.returns
-returns c = let a = c.args in let w = of-kind a.kind c.all_rows-table.ensures c.bounds_of-corners.ensures.value in
-    c.face_in.ensures ∙ ap₂ (λ k rows. first_fail (is_there (facet_in a.labels.now (take k a.tuple.now))) rows) w.tables.corners (ap₂ faces_by w.tables.triangles w.tables.quads)
+returns c = let a = c.args in let w = c.tables_of-tables.ensures in
+    c.face_in.ensures ∙ ap₂ (λ k rows. first_fail (is_there (facet_in a.ix.now.labels.now (take k a.tuple.now))) rows) w.tables.corners (ap₂ faces_by w.tables.triangles w.tables.quads)
 
 pub overflow_cast-result : goal.overflow_cast-result
-overflow_cast-result c = let a = c.args in let h = fits (is_there (facet_in a.labels.now (tuple_of a.kind a.tuple.now))) (faces (template_of a.kind)) (returns c) (short a.kind).faces in
+overflow_cast-result c = let a = c.args in let h = fits (is_there (facet_in a.ix.now.labels.now (tuple_of a.kind a.tuple.now))) (faces (template_of a.kind)) (returns c) (short a.kind).faces in
     omega arith

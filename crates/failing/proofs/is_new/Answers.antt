@@ -3,20 +3,17 @@ use mathlib.Core.Path.{ap}
 use mathlib.Core.Bool.{not}
 use borrow.Author.Tests.{lt-ltb, le-ltb}
 use lib.ListN.{length-take}
-use Rattle.reasons.specs.Reason.{is_new}
 use native.Mathlib.Omega.{arith}
+use Rattle.reasons.specs.Reason.{is_new}
 use Rattle.failing.proofs.is_new.Goals as goal
-
-pub overflow_cast-v : goal.overflow_cast-v
-overflow_cast-v c = omega (arith, c.type_inv.c c.args.i)
-
-pub returns-then-n-v : goal.returns-then-n-v
-unfolding is_new
-returns-then-n-v c = rw (le-ltb _ _ c.if-n-v.true)
 
 pub slice_bounds-is_in-end : goal.slice_bounds-is_in-end
 slice_bounds-is_in-end c = simp length-take (omega arith)
 
-pub returns : goal.returns
+pub returns-then-c-i : goal.returns-then-c-i
 unfolding is_new
-returns c = rw (lt-ltb _ _ c.if-n-v.false) (ap not c.is_in.ensures)
+returns-then-c-i c = rw (lt-ltb _ _ c.if-c-i.true) (ap not c.is_in.ensures)
+
+pub returns-else-c-i : goal.returns-else-c-i
+unfolding is_new
+returns-else-c-i c = rw (le-ltb _ _ c.if-c-i.false)

@@ -1,23 +1,14 @@
 -- `failing::split_in` meets its contract. Assumes nothing.
-use mathlib.Core.Path.{refl, sym, ◌∙◌}
-use Prim.Native.Nat.{◌-◌}
-use native.Mathlib.Omega.{arith}
-use borrow.Author.Tests.{not-true, not-false}
-use Rattle.reasons.proofs.First.{fail_start, fail_next, fail_found, fail_done}
-use Rattle.std.proofs.lemmas.Bool.{not_from_false, not_from_true}
+use Rattle.std.proofs.Common.{rules, ◌∙◌, sym, ◌/◌, length}
+use Rattle.base.specs.Lists.{up_to}
+use Rattle.space.specs.Arrays.{row4}
+use Rattle.cells.specs.Cells.{splits}
+use Rattle.cells.specs.between.Rows.{facet_in}
+use Rattle.reasons.proofs.First.{fail_map}
 use Rattle.failing.proofs.split_in.Goals as goal
 
-pub loop-i-init : goal.loop-i-init
-loop-i-init c = (refl, fail_start)
-
-pub split-requires : goal.split-requires
-split-requires c = record { indexed = c.requires; i_in_bounds = omega arith }
-
-pub returns-then-not-split : goal.returns-then-not-split
-returns-then-not-split c = fail_found c.loop-i.invariant.1 (omega arith) (sym c.split.ensures ∙ not-true _ (not_from_false _ c.if-not-split.true))
-
-pub loop-i-preserved : goal.loop-i-preserved
-loop-i-preserved c = (refl, fail_next c.loop-i.invariant.1 (omega arith) (sym c.split.ensures ∙ not-false _ (not_from_true _ c.if-not-split.false)))
-
 pub returns : goal.returns
-returns c = fail_done c.loop-i.invariant.1 (omega arith)
+returns c =
+    let a = c.args in
+    let q = splits (facet_in a.ix.now.labels.now a.c.now) in
+    c.first_fail.ensures (λ i. q (row4 a.rows.now i)) (λ i b low said. search rules) ∙ sym (fail_map q (row4 a.rows.now) (up_to (length a.rows.now / 4)))

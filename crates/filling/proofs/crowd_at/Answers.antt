@@ -3,4 +3,4 @@ use Rattle.filling.proofs.Nearby.{aside_quad}
 use Rattle.filling.proofs.crowd_at.Goals as goal
 
 pub returns : goal.returns
-returns c = rw c.corners4-q.ensures (aside_quad c.args.labels.now c.args.quads.now c.args.c.now c.args.i c.requires.1)
+returns c = rw c.corners_at-q.ensures (aside_quad c.args.ix.now.labels.now c.args.quads.now c.args.c.now c.args.i c.requires)

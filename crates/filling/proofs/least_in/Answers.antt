@@ -1,5 +1,6 @@
 -- `filling::least_in` meets its contract. Assumes nothing.
-use Prim.Native.Nat.{◌-◌}
+use mathlib.Core.Path.{◌≡◌}
+use lib.ListN.{length}
 use native.Mathlib.Omega.{arith}
 use Rattle.filling.proofs.Nearby.{passed-next, least-none, least-past, least_hit}
 use Rattle.filling.proofs.least_in.Goals as goal
@@ -23,4 +24,4 @@ pub loop-at-preserved : goal.loop-at-preserved
 loop-at-preserved c = passed-next c.loop-at.invariant (omega arith) c.is_hit.ensures c.if-is_hit.false
 
 pub returns : goal.returns
-returns c = (least-none c.loop-at.invariant _ (omega arith), c.loop-at.invariant)
+returns c = let l = c.loop-at in let e : l.at ≡ length c.args.row.now = omega (arith, c.requires.stamped.1.low, l.auto.at-end) in (least-none l.invariant c.args.s.hi (omega arith), rw e at l.invariant)

@@ -1,6 +1,6 @@
 -- The next number that passes a test, looked for among the numbers of a row, and around the corners of a tuple.
 -- Assumes nothing.
-use Rattle.std.specs.Prelude.{ℕ, ◌/◌, ◌≤◌, ◌<◌, ◌≡◌, Bool, true, false, List, [], ◌∷◌, length, get_or}
+use Rattle.std.specs.Prelude.{ℕ, ◌/◌, ◌≤◌, ◌<◌, ◌≡◌, Bool, true, false, List, length, get_or}
 use Rattle.base.specs.Lists.{all, is_in}
 use Rattle.space.specs.Arrays.{row4}
 use Rattle.space.specs.between.Working.{around}
@@ -35,7 +35,7 @@ pub record NextAround (b : ℕ → Bool) (ls c : List ℕ) (lo hi k : ℕ) (out 
 
 -- the four vertices left out
 abbrev pub left_out : Crowd → List ℕ
-left_out w = w.a.0 ∷ w.b.0 ∷ w.d.0 ∷ w.e.0 ∷ []
+left_out w = w.corners
 
 -- no tetrahedron that passes b has all its vertices among those left out
 pub record Aside (b : ℕ → Bool) (ls out : List ℕ) : Type 0 where

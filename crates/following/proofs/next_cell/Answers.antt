@@ -1,20 +1,17 @@
 -- The kinds that the loop has passed have no cell after the mark. Assumes nothing.
-use Prim.Native.Nat.{◌-◌}
+use mathlib.Core.Path.{refl, sym, ◌∙◌}
 use native.Mathlib.Omega.{arith}
-use Rattle.following.proofs.InTurn.{none-start, none_more, came_at, came_none}
+use lib.ListN.{get_or}
+use Rattle.templates.specs.declared.kind.Kind.TheVariants.{Pyramid}
+use Rattle.following.specs.between.Following.{kinds}
+use Rattle.following.proofs.InTurn.{none_more, none_here, comes_at, came_none}
 use Rattle.following.proofs.next_cell.Goals as goal
 
-pub loop-i-init : goal.loop-i-init
-loop-i-init c = (omega arith, none-start _)
+pub returns-then-is_some : goal.returns-then-is_some
+returns-then-is_some c = comes_at _ c.next_of-x.result (sym c.is_some.ensures ∙ c.if-is_some.true) (omega (arith, c.loop-kind-test.true)) c.loop-kind.invariant refl c.next_of-x.ensures
 
-pub next_of-x-requires : goal.next_of-x-requires
-next_of-x-requires c = record { tables_value = c.requires.tables_value; ready = c.requires.ready; kind_value = c.kind_at-kind.ensures.1 }
-
-pub returns-then-x : goal.returns-then-x
-returns-then-x c = came_at _ (omega (arith, c.loop-i-test.true)) c.loop-i.invariant.1 c.if-x.true c.kind_at-kind.ensures.0 c.next_of-x.ensures
-
-pub loop-i-preserved : goal.loop-i-preserved
-loop-i-preserved c = (omega arith, none_more _ c.loop-i.invariant.1 c.if-x.false c.kind_at-kind.ensures.0 c.next_of-x.ensures)
+pub loop-kind-preserved : goal.loop-kind-preserved
+loop-kind-preserved c = none_more _ c.loop-kind.invariant refl (none_here _ (get_or kinds c.loop-kind.kind-index Pyramid) c.next_of-x.result (sym c.is_some.ensures ∙ c.if-is_some.false) c.next_of-x.ensures)
 
 pub returns : goal.returns
-returns c = came_none _ (omega (arith, c.loop-i-test.false)) c.loop-i.invariant.1 c.none.ensures
+returns c = came_none _ (omega (arith, c.loop-kind-test.false)) c.loop-kind.invariant

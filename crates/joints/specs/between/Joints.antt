@@ -1,7 +1,7 @@
 -- Two tetrahedra with a facet in common, and the pyramids of them that are tried.
 -- ls are the labels, four a tetrahedron; e and m are numbers of tetrahedra, i a place in one.
 -- Assumes nothing.
-use Rattle.std.specs.Prelude.{ℕ, ◌+◌, ◌*◌, ◌%◌, Bool, true, false, not, cond, List, [], ◌∷◌, eqb, ltb, get_or}
+use Rattle.std.specs.Prelude.{ℕ, ◌+◌, ◌*◌, ◌%◌, Bool, true, false, not, cond, List, [], ◌∷◌, eqb, ltb, get_or, Option, None, Some}
 use Rattle.base.specs.Lists.{keep, is_in, up_to}
 use Rattle.space.specs.Arrays.{row4}
 use Rattle.space.specs.declared.Vertex.{Vertex}
@@ -11,10 +11,6 @@ use Rattle.joints.specs.declared.Joint.{Joint}
 
 abbrev pub label_at : List ℕ → ℕ → ℕ → Vertex
 label_at ls e i = record { 0 = get_or ls (4 * e + i) 0 }
-
--- no facet in common
-abbrev pub no_joint : Joint
-no_joint = let o : Vertex = record { 0 = 0 } in record { some = false; u = o; w = o; x = o; y = o; z = o }
 
 -- m does not have the vertex at place i of the tetrahedron whose labels start at `at`
 abbrev pub lacks : List ℕ → ℕ → ℕ → ℕ → Bool
@@ -36,14 +32,15 @@ across_of ls e i w =
     let y = label_at ls e ((i + 2) % 4) in
     let z = label_at ls e ((i + 3) % 4) in
     let even = eqb (i % 2) 0 in
-    record { some = true; u = label_at ls e i; w = w; x = label_at ls e ((i + 1) % 4); y = cond even y z; z = cond even z y }
+    record { u = label_at ls e i; w = w; x = label_at ls e ((i + 1) % 4); y = cond even y z; z = cond even z y }
 
--- the pair of e and m, where each has just one vertex that the other does not have
-unfoldable pub joint_of : List ℕ → ℕ → ℕ → Joint
+-- the pair of e and m, where each has just one vertex that the other does not have; none where they have no facet in
+-- common
+unfoldable pub joint_of : List ℕ → ℕ → ℕ → Option Joint
 joint_of ls e m =
     let i = lone_of ls e m in
     let j = lone_of ls m e in
-    cond (eqb i 4) no_joint (cond (eqb j 4) no_joint (across_of ls e i (label_at ls m j)))
+    cond (eqb i 4) None (cond (eqb j 4) None (Some (across_of ls e i (label_at ls m j))))
 
 -- ---- its pyramids
 

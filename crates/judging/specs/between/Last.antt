@@ -1,8 +1,10 @@
 -- The first failing of conditions 5 and 6.
 -- Assumes nothing.
-use Rattle.std.specs.Prelude.{ℕ, Bool, cond, List, get_or}
+use Rattle.std.specs.Prelude.{ℕ, Bool, cond, List, get_or, Result, Ok, Err}
 use Rattle.cells.specs.Cells.{all_agree}
 use Rattle.cells.specs.between.Rows.{own_numbers_by, fills_with}
+use Rattle.judging.specs.declared.Condition.{Condition}
+use Rattle.judging.specs.declared.Condition.TheVariants.{Corners, Edges, Faces, Boxes, Filled, OnePart}
 
 -- the first of conditions 5 and 6 that fails, 0 where neither does
 abbrev pub last_of : Bool → Bool → ℕ
@@ -16,3 +18,16 @@ last_with ls ps xs c ts qs ws =
 
 abbrev pub last_failing : List ℕ → List ℕ → List ℕ → List ℕ → List ℕ → List ℕ → ℕ
 last_failing ls ps c ts qs ws = last_with ls ps (own_numbers_by ls qs c) c ts qs ws
+
+-- a condition by its number, and what a test of them tells: the first that fails, 0 where none does
+abbrev pub number : Condition → ℕ
+number Corners = 1
+number Edges = 2
+number Faces = 3
+number Boxes = 4
+number Filled = 5
+number OnePart = 6
+
+abbrev pub condition_no : {A : Type 0} → Result A Condition → ℕ
+condition_no (Ok x) = 0
+condition_no (Err k) = number k

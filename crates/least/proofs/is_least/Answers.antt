@@ -1,22 +1,15 @@
 -- `least::is_least` meets its contract. Assumes nothing.
-use mathlib.Core.Path.{sym}
-use lib.Seq.{length-take-le}
-use native.Mathlib.Omega.{arith}
-use borrow.Author.Tests.{eq-eqb, ne_eqb}
-use Rattle.least.specs.Least.{is_least}
+use mathlib.Core.Path.{◌≡◌, ◌∙◌, ap, ap₂}
+use lib.ListN.{take}
+use Rattle.templates.specs.Tables.{template_of}
+use Rattle.templates.specs.Kinds.{template}
+use Rattle.templates.proofs.Numbered.{template-of}
+use Rattle.least.specs.Least.{rises_at, is_least}
 use Rattle.least.proofs.is_least.Goals as goal
-
-pub slice_bounds-all_rise-end : goal.slice_bounds-all_rise-end
-slice_bounds-all_rise-end c = sym (length-take-le 8 c.args.corners.now (omega arith))
-
-pub returns-then-kind-eq8 : goal.returns-then-kind-eq8
-unfolding is_least
-returns-then-kind-eq8 c = rw (eq-eqb _ _ c.if-kind-eq8.true) c.all_rise.ensures
-
-pub returns-then-kind-eq6 : goal.returns-then-kind-eq6
-unfolding is_least
-returns-then-kind-eq6 c = rw (ne_eqb _ _ c.if-kind-eq8.false, eq-eqb _ _ c.if-kind-eq6.true) c.all_rise-then-kind-eq6.ensures
 
 pub returns : goal.returns
 unfolding is_least
-returns c = rw (ne_eqb _ _ c.if-kind-eq8.false, ne_eqb _ _ c.if-kind-eq6.false) c.all_rise-2.ensures
+returns c =
+    let t : template c.from-kind.result ≡ template_of c.args.kind = ap template c.from-kind.ensures ∙ template-of c.args.kind in
+    c.all_rise.ensures
+    ∙ ap₂ rises_at (c.less_of.ensures ∙ ap (λ k. k.less) t) (ap (λ k. take k c.args.corners.now) (c.corners.ensures.0 ∙ ap (λ k. k.corners) t))

@@ -1,15 +1,11 @@
 -- `levels::lesser_of` meets its contract. Assumes nothing.
-use Prim.Native.Nat.{◌+◌}
-use mathlib.Core.Path.{◌∙◌, ap}
+use mathlib.Core.Path.{◌∙◌}
 use native.Mathlib.Omega.{arith}
-use lib.ListN.{get_or}
-use Rattle.levels.specs.between.Levels.{lesser}
-use Rattle.levels.proofs.Entries.{levels-long, entry_at, lesser-stands, lesser-few}
+use Rattle.levels.specs.between.Levels.{lesser, levels}
+use Rattle.levels.proofs.Entries.{entry_at, lesser-stands, lesser-few}
 use Rattle.levels.proofs.lesser_of.Goals as goal
 
-pub entry_of-requires : goal.entry_of-requires
-entry_of-requires c = rw (c.requires.0, levels-long) (omega arith)
-
 pub returns : goal.returns
-returns c = let e = c.entry_of.ensures ∙ ap (λ l. get_or l (190 + c.args.x) 0) c.requires.0 ∙ entry_at 190 lesser lesser-stands c.args.x (omega arith) in
+unfolding levels
+returns c = let e = c.from.ensures ∙ entry_at 190 lesser lesser-stands c.args.x (omega arith) in
     (e, omega (arith, e, lesser-few c.args.x))

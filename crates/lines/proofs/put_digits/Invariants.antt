@@ -1,12 +1,8 @@
 -- The digits that are still to put, and then those that stand, are the last k.
-use Rattle.std.proofs.Common.{◌≡◌, ◌++◌, ◌≤◌, length}
+use Rattle.std.proofs.Common.{◌≡◌, ◌++◌}
 use Rattle.std.proofs.Math.Seq.{slice}
 use Rattle.lines.specs.Text.{last_digits}
 use Rattle.lines.proofs.put_digits.Given as goal
 
 abbrev pub invariant-loop-i : goal.invariant-loop-i
-invariant-loop-i l =
-    (length l.out ≡ length l.initial.out) × (l.i ≤ l.k) × (last_digits l.i l.rest ++ slice l.i l.k l.out ≡ last_digits l.k l.x)
-
-abbrev pub decreases-loop-i : goal.decreases-loop-i
-decreases-loop-i l = l.i
+invariant-loop-i l = last_digits l.i l.rest ++ slice l.i l.k l.out ≡ last_digits l.k l.x

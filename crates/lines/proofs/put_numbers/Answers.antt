@@ -5,24 +5,24 @@ use Rattle.lines.specs.Text.{spaced, numbers}
 use Rattle.lines.proofs.Numbers.{numbers-none, numbers_more, part_length}
 use Rattle.lines.proofs.put_numbers.Goals as goal
 
-pub loop-i-init : goal.loop-i-init
-loop-i-init c =
+pub loop-x-init : goal.loop-x-init
+loop-x-init c =
     let a = c.args in
-    (omega arith, omega (arith, ap length numbers-none), laid_none a.from _ a.out.now numbers-none (omega arith))
+    (omega (arith, ap length numbers-none), laid_none a.from _ a.out.now numbers-none (omega arith))
 
 pub put_number-at-requires : goal.put_number-at-requires
 put_number-at-requires c =
-    let l = c.loop-i in
-    omega (arith, part_length c.args.list.now l.i (omega arith), l.invariant.1, l.invariant.2.same)
+    let l = c.loop-x in
+    omega (arith, part_length c.args.list.now l.x-index (omega arith), l.invariant.0, l.invariant.1.same)
 
-pub loop-i-preserved : goal.loop-i-preserved
-loop-i-preserved c =
-    let l = c.loop-i in
+pub loop-x-preserved : goal.loop-x-preserved
+loop-x-preserved c =
+    let l = c.loop-x in
     let a = c.args in
-    let n = c.put_number-at.ensures in
-    let h : l.i < length a.list.now = omega arith in
-    let e = numbers_more a.list.now l.i h in (
-      omega arith,
-      omega (arith, n.next, l.invariant.1, ap length e, length-append (numbers (take l.i a.list.now)) (spaced (get_or a.list.now l.i 0))),
-      laid_more l.invariant.2 _ l.invariant.1 n.text e,
+    let x = c.from.ensures in
+    let n = rw x at c.put_number-at.ensures in
+    let h : l.x-index < length a.list.now = omega arith in
+    let e = numbers_more a.list.now l.x-index h in (
+      omega (arith, n.next, l.invariant.0, ap length e, length-append (numbers (take l.x-index a.list.now)) (spaced (get_or a.list.now l.x-index 0))),
+      laid_more l.invariant.1 _ l.invariant.0 n.text e,
     )

@@ -1,16 +1,18 @@
 -- What is said of the vertices that link two others.
 -- Assumes nothing.
-use Rattle.std.specs.Prelude.{ℕ, ◌≡◌, ◌⊎◌, true, List}
+use Rattle.std.specs.Prelude.{ℕ, ◌≡◌, ◌⊎◌, List}
 use Rattle.reaching.specs.declared.FaceEdge.{FaceEdge}
 use Rattle.reaching.specs.between.Reaching.{Links}
 use Rattle.linking.specs.declared.Linking.{Linking}
+use Rattle.linking.specs.declared.Linking.TheVariants.{None, One, Pair, More}
 
 -- x is among what was met: there is some; it is the vertex, where that is single,
--- and the vertex or the other, where they are a pair
-pub record IsMet (s : Linking) (x : ℕ) : Type 0 where
-  pub some : s.some ≡ true
-  pub one : s.single ≡ true → x ≡ s.vertex.0
-  pub two : s.pair ≡ true → (x ≡ s.vertex.0) ⊎ (x ≡ s.other.0)
+-- and one of the two, where they are a pair
+abbrev pub IsMet : Linking → ℕ → Type 0
+IsMet None x = ⊥
+IsMet (One v) x = x ≡ v.0
+IsMet (Pair v o) x = (x ≡ v.0) ⊎ (x ≡ o.0)
+IsMet (More v o) x = Unit {0}
 
 -- what is asked for is among what was met
 abbrev pub AllMet : (ℕ → Type 0) → Linking → Type 0

@@ -1,11 +1,7 @@
--- `is_blank` meets its contract. The loop's invariant: nothing met, nothing at the vertices passed. Assumes nothing.
+-- The loop's invariant: nothing met, nothing at the vertices passed. Assumes nothing.
 use mathlib.Core.Path.{◌≡◌}
-use Prim.Native.Nat.{◌-◌, ◌≤◌}
 use Rattle.matrix.specs.between.Matrix.{Blank}
 use Rattle.matrix.proofs.is_blank.Given as goal
 
 abbrev pub invariant-loop-i : goal.invariant-loop-i
-invariant-loop-i l = (l.i ≤ 16) × (l.x ≡ 0 → Blank l.m l.k l.v l.i)
-
-abbrev pub decreases-loop-i : goal.decreases-loop-i
-decreases-loop-i l = 16 - l.i
+invariant-loop-i l = l.x ≡ 0 → Blank l.m l.k l.v l.i

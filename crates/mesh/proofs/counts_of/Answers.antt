@@ -3,10 +3,10 @@ use mathlib.Core.Path.{sym, ap, ◌∙◌}
 use Rattle.mesh.specs.Counts.{sizes_of, sizes_in}
 use Rattle.mesh.proofs.counts_of.Goals as goal
 
-pub returns-in-Accepted : goal.returns-in-Accepted
+pub returns-in-Ok : goal.returns-in-Ok
 unfolding sizes_in
-returns-in-Accepted c = ap sizes_of (sym c.in-Accepted.is ∙ c.check-found.ensures)
+returns-in-Ok c = ap sizes_of c.in-Ok.ensures
 
-pub returns-in_default : goal.returns-in_default
+pub returns-in-Err : goal.returns-in-Err
 unfolding sizes_in
-returns-in_default c = ap sizes_of (sym c.in_default.is ∙ c.check-found.ensures)
+returns-in-Err c = ap sizes_of c.in-Err.ensures

@@ -1,6 +1,6 @@
--- `put_row` meets its contract. The loop's invariant: the room has grown by the row up to v. Assumes nothing.
+-- `put_row` meets its contract. Assumes nothing.
 use mathlib.Core.Path.{◌≡◌, ◌∙◌, ap}
-use Prim.Native.Nat.{◌+◌, ◌-◌}
+use Prim.Native.Nat.{◌+◌, ◌-◌, ◌*◌, ◌%◌}
 use native.Mathlib.Omega.{arith}
 use Rattle.neighbours.specs.Table.{neighbour_row}
 use Rattle.matrix.specs.between.Matrix.{is_joined}
@@ -8,22 +8,23 @@ use Rattle.neighbours.proofs.Rows.{row-none, row-add, row_room}
 use Rattle.neighbours.proofs.Growing.{grown-none, grown-more}
 use Rattle.neighbours.proofs.put_row.Goals as goal
 
-pub loop-v-init : goal.loop-v-init
-loop-v-init c = let a = c.args in (omega arith, grown-none a.from _ a.rows.now (row-none (is_joined a.m.now) a.u.0))
+pub loop-i-init : goal.loop-i-init
+loop-i-init c = let a = c.args in grown-none a.from _ a.rows.now (row-none (is_joined a.m.now) a.u.0)
 
 pub put_block-at-requires : goal.put_block-at-requires
-put_block-at-requires c = let a = c.args in let l = c.loop-v in (omega arith, omega (arith, l.invariant.1.ends, l.invariant.1.same, row_room (is_joined a.m.now) a.u.0 l.v 16 a.n (omega arith)))
+put_block-at-requires c = let a = c.args in let l = c.loop-i in (omega arith, omega (arith, l.invariant.ends, l.invariant.same, row_room (is_joined a.m.now) a.u.0 (16 * l.i) 16 a.n (omega arith)))
 
-pub loop-v-preserved : goal.loop-v-preserved
-loop-v-preserved c = let a = c.args in let l = c.loop-v in (omega arith, grown-more l.invariant.1 c.put_block-at.ensures (row-add (is_joined a.m.now) a.u.0 l.v 16))
+pub loop-i-preserved : goal.loop-i-preserved
+loop-i-preserved c = let a = c.args in let l = c.loop-i in let f = is_joined a.m.now in
+    let e : 16 * (l.i + 1) ≡ 16 * l.i + 16 = omega arith in
+    grown-more l.invariant c.put_block-at.ensures (ap (λ k. neighbour_row f k a.u.0) e ∙ row-add f a.u.0 (16 * l.i) 16)
 
 pub put_part-requires : goal.put_part-requires
-put_part-requires c = let a = c.args in let l = c.loop-v in (omega arith, omega (arith, l.invariant.1.ends, l.invariant.1.same, row_room (is_joined a.m.now) a.u.0 l.v (a.n - l.v) a.n (omega arith)))
-
-pub shape_of-rows : goal.shape_of-rows
-shape_of-rows c = c.put_part.ensures.same ∙ c.loop-v.invariant.1.same
+put_part-requires c = let a = c.args in let l = c.loop-i in let e : a.n - a.n % 16 ≡ 16 * l.i = omega arith in
+    (omega arith, rw e (omega (arith, l.invariant.ends, l.invariant.same, row_room (is_joined a.m.now) a.u.0 (16 * l.i) (a.n % 16) a.n (omega arith))))
 
 pub returns : goal.returns
-returns c = let a = c.args in let l = c.loop-v in let f = is_joined a.m.now in
-    let e : a.n ≡ l.v + (a.n - l.v) = omega arith in
-    grown-more l.invariant.1 c.put_part.ensures (ap (λ k. neighbour_row f k a.u.0) e ∙ row-add f a.u.0 l.v (a.n - l.v))
+returns c = let a = c.args in let l = c.loop-i in let f = is_joined a.m.now in
+    let e : a.n - a.n % 16 ≡ 16 * l.i = omega arith in
+    let d : a.n ≡ 16 * l.i + a.n % 16 = omega arith in
+    grown-more l.invariant (rw e at c.put_part.ensures) (ap (λ k. neighbour_row f k a.u.0) d ∙ row-add f a.u.0 (16 * l.i) (a.n % 16))

@@ -1,10 +1,9 @@
--- `put_rows` meets its contract. The loop's invariant: both rooms have grown by what the rows passed give.
--- Assumes nothing.
+-- `put_rows` meets its contract. Assumes nothing.
 use mathlib.Core.Path.{◌≡◌, sym, ◌∙◌, ap}
 use mathlib.Core.List.{List, [], ◌∷◌, ◌++◌}
-use Prim.Native.Nat.{ℕ, ◌+◌, ◌-◌}
+use Prim.Native.Nat.{ℕ, ◌+◌}
 use native.Mathlib.Omega.{arith}
-use lib.ListN.{length, length-set}
+use lib.ListN.{length}
 use Rattle.neighbours.specs.Table.{neighbour_row, first_rows}
 use Rattle.neighbours.specs.between.Grown.{Grown}
 use Rattle.matrix.specs.between.Matrix.{is_joined}
@@ -20,39 +19,19 @@ offs-next r u {at} g =
 
 pub loop-u-init : goal.loop-u-init
 loop-u-init c = let a = c.args in let r = neighbour_row (is_joined a.m.now) a.n in
-    (omega arith, grown-none 0 _ a.starts.now (offs_none r), grown-none 0 _ a.rows.now (rows_none r))
-
-pub overflow_cast-starts : goal.overflow_cast-starts
-overflow_cast-starts c = omega (arith, c.loop-u.invariant.2.ends, c.requires.1.1 c.loop-u.u)
-
-pub bounds-starts-u : goal.bounds-starts-u
-bounds-starts-u c = omega (arith, c.loop-u.invariant.1.same)
+    (grown-none 0 _ a.starts.now (offs_none r), grown-none 0 _ a.rows.now (rows_none r))
 
 pub put_row-at-requires : goal.put_row-at-requires
-put_row-at-requires c = let l = c.loop-u in (omega arith, omega (arith, l.invariant.2.ends, l.invariant.2.same, rows-up (neighbour_row (is_joined c.args.m.now) c.args.n) l.u, c.requires.1.1 (l.u + 1)))
+put_row-at-requires c = let l = c.loop-u in (omega arith, omega (arith, l.invariant.1.ends, l.invariant.1.same, rows-up (neighbour_row (is_joined c.args.m.now) c.args.n) l.u, c.requires.1.1 (l.u + 1)))
 
 pub loop-u-preserved : goal.loop-u-preserved
 loop-u-preserved c = let a = c.args in let l = c.loop-u in let r = neighbour_row (is_joined a.m.now) a.n in (
-  omega arith,
-  grown-set l.invariant.1 l.at (omega arith) (offs-next r l.u l.invariant.2),
-  grown-more l.invariant.2 c.put_row-at.ensures (rows_more r l.u),
+  grown-set l.invariant.0 l.at (omega arith) (offs-next r l.u l.invariant.1),
+  grown-more l.invariant.1 c.put_row-at.ensures (rows_more r l.u),
 )
 
-pub overflow_cast-starts-2 : goal.overflow_cast-starts-2
-overflow_cast-starts-2 c = omega (arith, c.loop-u.invariant.2.ends, c.requires.1.1 c.loop-u.u)
-
-pub bounds-starts-n : goal.bounds-starts-n
-bounds-starts-n c = omega (arith, c.loop-u.invariant.1.same)
-
-pub shape_of-starts : goal.shape_of-starts
-shape_of-starts c = length-set c.loop-u.starts c.args.n c.loop-u.at ∙ c.loop-u.invariant.1.same
-
-pub shape_of-rows : goal.shape_of-rows
-shape_of-rows c = c.loop-u.invariant.2.same
-
-pub returns : goal.returns
-returns c = let a = c.args in let l = c.loop-u in let r = neighbour_row (is_joined a.m.now) a.n in
+pub returns-clause-offsets : goal.returns-clause-offsets
+returns-clause-offsets c = let a = c.args in let l = c.loop-u in let r = neighbour_row (is_joined a.m.now) a.n in
     let e : l.u ≡ a.n = omega arith in
-    let g : Grown 0 a.n (offs r a.n) a.starts.now l.starts = rw e at l.invariant.1 in
-    let h : Grown 0 l.at (first_rows r a.n) a.rows.now l.rows = rw e at l.invariant.2 in
-    record { offsets = grown-set g l.at (omega arith) (sym (offs_all r a.n) ∙ offs-next r a.n h); entries = h }
+    let g : Grown 0 a.n (offs r a.n) a.starts.now l.starts = rw e at l.invariant.0 in
+    grown-set g l.at (omega arith) (sym (offs_all r a.n) ∙ offs-next r a.n (rw e at l.invariant.1))

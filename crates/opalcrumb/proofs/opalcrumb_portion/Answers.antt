@@ -2,7 +2,7 @@
 use mathlib.Core.Path.{◌≡◌}
 use mathlib.Core.List.{List}
 use Prim.Native.Nat.{ℕ}
-use Rattle.records.specs.declared.Answer.{Answer}
+use Rattle.records.specs.Marks.{Answer}
 use Rattle.portioning.specs.Portion.{Portioned}
 use Rattle.opalcrumb.proofs.opalcrumb_portion.Goals as goal
 

@@ -11,6 +11,3 @@ use Rattle.open_faces.proofs.sides_at.Given as goal
 
 abbrev pub invariant-loop-i : goal.invariant-loop-i
 invariant-loop-i l = (l.t ≡ length l.labels / 4) × ((l.found ≤ l.i) × CountUp (λ e. has_all l.labels (l.u.0 ∷ l.v.0 ∷ l.w.0 ∷ []) e && owns_by l.labels l.quads l.c e) (λ e. e) l.t l.i l.found)
-
-abbrev pub decreases-loop-i : goal.decreases-loop-i
-decreases-loop-i l = l.t - l.i

@@ -2,4 +2,4 @@
 use Rattle.open_faces.proofs.sides_row.Goals as goal
 
 pub returns : goal.returns
-returns c = rw c.corners3-f.ensures at c.sides_at.ensures
+returns c = rw c.corners_at-f.ensures at c.sides_at.ensures

@@ -1,17 +1,21 @@
 -- Where condition 5 fails, as the code finds it: by a mesh's labels, and the least triple one after the other.
 -- Assumes nothing.
-use Rattle.std.specs.Prelude.{ℕ, cond, List, [], ◌∷◌}
+use Rattle.std.specs.Prelude.{ℕ, cond, List, [], ◌∷◌, Option, None, Some}
 use Rattle.space.specs.Arrays.{row4}
 use Rattle.templates.specs.Tables.{at}
 use Rattle.cells.specs.Cells.{paired, sides_of}
 use Rattle.cells.specs.between.Rows.{own_numbers}
 use Rattle.reasons.specs.declared.Finding.{Finding}
 use Rattle.reasons.specs.Reason.{faces_by, others, rising, lesser_of, found_open}
-use Rattle.open_triples.specs.declared.Best.{Best}
+use Rattle.open_triples.specs.declared.Triple.{Triple}
 
--- the vertices of the best so far, where there is one
-abbrev pub held : Best → List ℕ
-held x = cond x.some (x.u ∷ x.v ∷ x.w ∷ []) []
+-- the vertices of a triple; of the best so far, where there is one
+abbrev pub told : Triple → List ℕ
+told x = x.u ∷ x.v ∷ x.w ∷ []
+
+abbrev pub held : Option Triple → List ℕ
+held None = []
+held (Some x) = told x
 
 -- the lesser of what is held and of one triple of places of x, where it offends
 unfoldable pub offered : (List ℕ → ℕ) → List ℕ → List ℕ → List ℕ → List ℕ

@@ -1,6 +1,7 @@
 -- `order::letters` meets its contract. Assumes nothing.
-use borrow.Author.Tests.{eq-eqb}
+use mathlib.Core.Path.{◌∙◌}
+use Rattle.order.proofs.Fronts.{letters-eight}
 use Rattle.order.proofs.letters.Goals as goal
 
-pub returns-then-kind-eq8 : goal.returns-then-kind-eq8
-returns-then-kind-eq8 c = rw (eq-eqb _ 8 c.if-kind-eq8.true) c.turned.ensures
+pub returns : goal.returns
+returns c = c.turned.ensures ∙ letters-eight c.args.kind c.args.s c.from.ensures c.places_of.ensures

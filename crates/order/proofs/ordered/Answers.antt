@@ -1,6 +1,7 @@
 -- `order::ordered` meets its contract. Assumes nothing.
-use borrow.Author.Tests.{eq-eqb}
+use mathlib.Core.Path.{◌∙◌}
+use Rattle.order.proofs.Fronts.{ordered-eight}
 use Rattle.order.proofs.ordered.Goals as goal
 
-pub returns-then-kind-eq8 : goal.returns-then-kind-eq8
-returns-then-kind-eq8 c = rw (eq-eqb _ 8 c.if-kind-eq8.true) c.turned.ensures
+pub returns : goal.returns
+returns c = c.turned.ensures ∙ ordered-eight c.args.kind c.args.c c.from.ensures c.order_of.ensures

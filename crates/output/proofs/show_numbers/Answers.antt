@@ -15,4 +15,4 @@ returns g c =
     let t = c.put_text-a.ensures in
     let n = c.put_numbers-b.ensures in
     let e = c.put_text-c.ensures in
-    λ h. rw (three t.text t.next n.text n.next e.text e.next) at (c.show.ensures h)
+    rw (three t.text t.next n.text n.next e.text e.next) at c.show.ensures

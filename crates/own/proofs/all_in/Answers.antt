@@ -1,17 +1,12 @@
 -- `own::all_in` meets its contract. Assumes nothing.
-use mathlib.Core.Path.{sym, ◌∙◌}
-use Rattle.base.proofs.Bools.{and-true}
+use mathlib.Core.Path.{◌∙◌}
+use Rattle.std.proofs.Common.{rules}
+use Rattle.base.specs.Lists.{is_in}
+use Rattle.space.specs.Arrays.{row4}
+use Rattle.templates.proofs.Rows.{all_of}
+use Rattle.own.proofs.Vertices.{row_part}
 use Rattle.own.proofs.all_in.Goals as goal
 
-pub returns-then-not-is_in : goal.returns-then-not-is_in
-returns-then-not-is_in c = sym (rw (sym c.is_in.ensures ∙ c.if-not-is_in.true))
-
-pub returns-then-not-is_in-2 : goal.returns-then-not-is_in-2
-returns-then-not-is_in-2 c = sym (rw (sym c.is_in.ensures ∙ c.if-not-is_in.false, sym c.is_in-2.ensures ∙ c.if-not-is_in-2.true))
-
-pub returns-then-not-is_in-3 : goal.returns-then-not-is_in-3
-returns-then-not-is_in-3 c = sym (rw (sym c.is_in.ensures ∙ c.if-not-is_in.false, sym c.is_in-2.ensures ∙ c.if-not-is_in-2.false, sym c.is_in-3.ensures ∙ c.if-not-is_in-3.true))
-
 pub returns : goal.returns
-returns c = c.is_in-4.ensures ∙
-    sym (rw (sym c.is_in.ensures ∙ c.if-not-is_in.false, sym c.is_in-2.ensures ∙ c.if-not-is_in-2.false, sym c.is_in-3.ensures ∙ c.if-not-is_in-3.false) (and-true _))
+returns c = let a = c.args in
+    all_of (λ v. is_in v a.xs.now) (row4 a.labels.now a.e.0) (c.iter.ensures.rest ∙ rw c.from-at.ensures (row_part a.labels.now a.e.0 c.requires)) c.all.ensures.ran (λ x b q g. search rules)

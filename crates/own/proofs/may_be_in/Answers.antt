@@ -1,17 +1,12 @@
 -- `own::may_be_in` meets its contract. Assumes nothing.
-use mathlib.Core.Path.{sym, ◌∙◌}
-use Rattle.base.proofs.Bools.{and-true}
+use mathlib.Core.Path.{◌∙◌}
+use Rattle.std.proofs.Common.{rules}
+use Rattle.space.specs.Arrays.{row4}
+use Rattle.templates.proofs.Rows.{all_of}
+use Rattle.own.specs.between.Stamps.{has_stamp}
+use Rattle.own.proofs.Vertices.{row_part}
 use Rattle.own.proofs.may_be_in.Goals as goal
 
-pub returns-then-not-has_stamp : goal.returns-then-not-has_stamp
-returns-then-not-has_stamp c = sym (rw (sym c.has_stamp.ensures ∙ c.if-not-has_stamp.true))
-
-pub returns-then-not-has_stamp-2 : goal.returns-then-not-has_stamp-2
-returns-then-not-has_stamp-2 c = sym (rw (sym c.has_stamp.ensures ∙ c.if-not-has_stamp.false, sym c.has_stamp-2.ensures ∙ c.if-not-has_stamp-2.true))
-
-pub returns-then-not-has_stamp-3 : goal.returns-then-not-has_stamp-3
-returns-then-not-has_stamp-3 c = sym (rw (sym c.has_stamp.ensures ∙ c.if-not-has_stamp.false, sym c.has_stamp-2.ensures ∙ c.if-not-has_stamp-2.false, sym c.has_stamp-3.ensures ∙ c.if-not-has_stamp-3.true))
-
 pub returns : goal.returns
-returns c = c.has_stamp-4.ensures ∙
-    sym (rw (sym c.has_stamp.ensures ∙ c.if-not-has_stamp.false, sym c.has_stamp-2.ensures ∙ c.if-not-has_stamp-2.false, sym c.has_stamp-3.ensures ∙ c.if-not-has_stamp-3.false) (and-true _))
+returns c = let a = c.args in
+    all_of (has_stamp a.m.now) (row4 a.labels.now a.e.0) (c.iter.ensures.rest ∙ rw c.from-at.ensures (row_part a.labels.now a.e.0 c.requires)) c.all.ensures.ran (λ x b q g. search rules)

@@ -16,4 +16,4 @@ slice_bounds-write-end-3 c = sym (length-take-le _ _ (omega arith))
 
 pub returns : goal.returns
 returns c cs ls ps f = let a = c.args in front-answers a.room.now c.write.result _ a.n a.t a.coordinates.now a.numbers.now a.parts.now c.requires cs ls ps f _ _ _
-    c.at_most-c.ensures c.at_most-l.ensures c.at_most-p.ensures (c.write.ensures.answer, c.write.ensures.room)
+    c.min-c.ensures c.min-l.ensures c.min-p.ensures (c.write.ensures.answer, c.write.ensures.room)

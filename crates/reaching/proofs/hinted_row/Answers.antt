@@ -1,14 +1,13 @@
 -- `reaching::hinted_row` meets its contract. Assumes nothing.
-use Prim.Native.Nat.{◌-◌}
 use native.Mathlib.Omega.{arith}
 use Rattle.reaching.proofs.Least.{row-none, row_more, row-all}
 use Rattle.reaching.proofs.hinted_row.Goals as goal
 
-pub loop-k-init : goal.loop-k-init
-loop-k-init c = row-none
+pub loop-y-init : goal.loop-y-init
+loop-y-init c = row-none
 
-pub loop-k-preserved : goal.loop-k-preserved
-loop-k-preserved c = row_more c.loop-k.invariant c.hinted_at-b.ensures
+pub loop-y-preserved : goal.loop-y-preserved
+loop-y-preserved c = row_more c.loop-y.invariant c.hinted_at-b.ensures
 
 pub returns : goal.returns
-returns c = row-all c.loop-k.invariant (omega arith)
+returns c = row-all c.loop-y.invariant (omega arith)

@@ -1,5 +1,4 @@
 -- `reaching::next_hinted` meets its contract. Assumes nothing.
-use Prim.Native.Nat.{◌-◌}
 use native.Mathlib.Omega.{arith}
 use Rattle.reaching.proofs.Least.{denied, passed_none, passed_on, passed_here, passed-all}
 use Rattle.reaching.proofs.next_hinted.Goals as goal

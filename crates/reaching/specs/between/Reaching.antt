@@ -1,8 +1,8 @@
 -- Looking ahead of a cell's face: what an edge of it must allow while the next corner is not yet known,
 -- as far as the neighbour table and the hints of facets tell.
 -- Assumes nothing.
-use Rattle.std.specs.Prelude.{ℕ, ◌≤◌, ◌<◌, ◌≡◌, ◌⊎◌, Bool, true, not, ◌&&◌, List, eqb, leb, length, get_or}
-use Rattle.facet_hints.specs.between.Hints.{hint_places, hinted}
+use Rattle.std.specs.Prelude.{ℕ, ◌≤◌, ◌<◌, ◌≡◌, ◌⊎◌, Bool, true, not, ◌&&◌, List, eqb, leb, get_or}
+use Rattle.facet_hints.specs.between.Hints.{hinted}
 use Rattle.tets_around.specs.declared.Row.{Row}
 use Rattle.neighbours.specs.between.Reading.{Rowed, row_in, InRow}
 use Rattle.reaching.specs.declared.FaceEdge.{FaceEdge}
@@ -11,7 +11,6 @@ use Rattle.reaching.specs.declared.FaceEdge.{FaceEdge}
 pub record Lent (n : ℕ) (table hs : List ℕ) : Type 0 where
   pub few : n ≤ 512
   pub rowed : Rowed n table
-  pub sized : length hs ≡ hint_places
 
 -- r is the row of u or that of w
 pub record Chosen (n : ℕ) (table : List ℕ) (u w : ℕ) (r : Row) : Type 0 where

@@ -1,4 +1,4 @@
--- `search::seek` meets its contract; `well_formed` has the length of the tuple. Assumes nothing.
+-- `search::seek` meets its contract. Assumes nothing.
 use native.Mathlib.Omega.{arith}
 use Rattle.search.proofs.Scanning.{two-served, two_serve, meet_skips, points_are}
 use Rattle.search.proofs.Skipping.{raised_skips, hunt_skips}
@@ -17,27 +17,24 @@ pub neighbour_row-s-requires : goal.neighbour_row-s-requires
 neighbour_row-s-requires c = c.requires.sought.lent.rowed
 
 pub nearer-f-requires : goal.nearer-f-requires
-nearer-f-requires c = record { tables_value = c.requires.tables_value; x_bound = c.requires.placed.row }
+nearer-f-requires c = c.args.spot.now.placed.row
 
 pub looks_ahead-requires : goal.looks_ahead-requires
-looks_ahead-requires c = (c.requires.tables_value, (c.requires.sought.lent.rowed, c.requires.placed))
-
-pub hunt-requires : goal.hunt-requires
-hunt-requires c = record { tables_value = c.requires.tables_value; close = (c.requires.sought.close, c.requires.sought.lent); placed = c.requires.placed }
+looks_ahead-requires c = (c.requires.sought.lent.rowed, c.args.spot.now.placed)
 
 pub returns-then-looks_ahead : goal.returns-then-looks_ahead
-returns-then-looks_ahead c = let a = c.args in let l = c.well_formed.1.1.1.1.1.0.1.1.0.1.0.1 in
+returns-then-looks_ahead c = let a = c.args in let l = a.spot.now.within in
     λ k ls ps o w.
-    raised_skips a.coords.now ls ps o c.rise-from.ensures
-    (hunt_skips a.coords.now ls ps w (omega (arith, points_are c.requires.sought ls ps, c.requires.sought.lent.few)) o (omega (arith, l, c.requires.placed.at)) (c.looks_ahead.ensures c.if-looks_ahead.true) c.hunt.ensures)
+    raised_skips a.spot.now.coords.now ls ps o c.rise-from.ensures
+    (hunt_skips a.spot.now.coords.now ls ps w (omega (arith, points_are c.requires.sought ls ps, c.requires.sought.lent.few)) o l (c.looks_ahead.ensures c.if-looks_ahead.true) c.hunt.ensures)
 
 pub meet_rows-requires : goal.meet_rows-requires
-meet_rows-requires c = let g = c.requires.sought in record { tables_value = c.requires.tables_value; close = ((g.close, g.lent.sized), c.requires.placed); served = two-served g _ _ _ c.neighbour_row-r.ensures c.neighbour_row-q.ensures c.neighbour_row-s.ensures c.nearer-f.ensures c.fewer-one.ensures c.partner-two.ensures }
+meet_rows-requires c = two-served c.requires.sought _ _ _ c.neighbour_row-r.ensures c.neighbour_row-q.ensures c.neighbour_row-s.ensures c.nearer-f.ensures c.fewer-one.ensures c.partner-two.ensures
 
 pub returns : goal.returns
-returns c = let a = c.args in let l = c.well_formed.1.1.1.1.1.0.1.1.0.1.0.1 in
+returns c = let a = c.args in let l = a.spot.now.within in
     λ k ls ps o w.
-    raised_skips a.coords.now ls ps o c.rise-from.ensures
-    (meet_skips c.requires.sought o (omega (arith, l, c.requires.placed.at))
+    raised_skips a.spot.now.coords.now ls ps o c.rise-from.ensures
+    (meet_skips c.requires.sought o l
     (two_serve c.requires.sought o c.if-d-eq0.false c.joined_of.ensures.0 c.also_of.ensures.0 c.third_of.ensures.0 c.neighbour_row-r.ensures c.neighbour_row-q.ensures c.neighbour_row-s.ensures c.nearer-f.ensures c.fewer-one.ensures c.partner-two.ensures)
     c.meet_rows.ensures ls ps w)

@@ -4,14 +4,11 @@ use Rattle.std.specs.Prelude.{ℕ, ◌+◌, ◌/◌, ◌<◌, ◌≡◌, ◌⊎�
 use Rattle.space.specs.between.Working.{Close}
 use Rattle.tets_around.specs.between.Index.{Labelled}
 use Rattle.tets_around.specs.between.Arrays.{Arrays}
-use Rattle.space.specs.Mesh.{Mesh}
-use Rattle.templates.specs.Tables.{Template, template_of}
+use Rattle.templates.specs.Tables.{template_of}
 use Rattle.facet_hints.specs.between.Hints.{HintsOf}
 use Rattle.neighbours.specs.between.Reading.{Tabled, row_in}
 use Rattle.portions.specs.between.Tuples.{Agree}
-use Rattle.rule.specs.between.Leaf.{is_leaf, cell_at, leaf_in}
-use Rattle.filling.specs.between.Numbered.{Numbered}
-use Rattle.search.specs.declared.FoundTuple.{FoundTuple}
+use Rattle.rule.specs.between.Leaf.{leaf_in}
 use Rattle.reaching.specs.between.Reaching.{Lent}
 use Rattle.levels.specs.declared.Place.{Place}
 use Rattle.levels.specs.between.Levels.{base}
@@ -50,9 +47,3 @@ pub record Last (k : ℕ) (place : Place) : Type 0 where
 pub record Begins (zs : List ℤ) (n : ℕ) (hs table : List ℕ) (k : ℕ) (mark : List ℕ) (r : ℕ) : Type 0 where
   pub within : r < (template_of k).corners
   pub last : (ls ps : List ℕ) → Drawn ls n hs table → (r + 1 ≡ (template_of k).corners) ⊎ ((s : List ℕ) → leaf_in zs ls ps k s ≡ true → Agree (r + 1) mark s → ⊥)
-
--- what is said of the tuple s: whether it is listed, and then its tetrahedra
-pub record Tested (m : Mesh) (t : Template) (s : List ℕ) (r : FoundTuple) : Type 0 where
-  pub is : r.found ≡ is_leaf m t s
-  pub same : r.tuple ≡ s
-  pub tets : r.found ≡ true → Numbered (cell_at m t s).tets r.tets

@@ -1,14 +1,9 @@
 -- `small_rules::next` meets its contract.
-use Prim.Native.Nat.{ℕ, ◌≤◌, ◌<◌, ◌-◌}
+use Prim.Native.Nat.{ℕ, ◌<◌}
 use mathlib.Core.Path.{◌≡◌}
 use mathlib.Core.Bool.{true}
 use Rattle.small_rules.specs.between.Trial.{is_trial}
-use Rattle.small_rules.proofs.next.Reads as reads
-use Rattle.small_rules.proofs.next.Lts as lts
 use Rattle.small_rules.proofs.next.Given as goal
 
 abbrev pub invariant-loop-c : goal.invariant-loop-c
-invariant-loop-c l = (l.mark < l.c) × (l.c ≤ l.n) × ((d : ℕ) → l.mark < d → d < l.c → is_trial d ≡ true → ⊥)
-
-abbrev pub decreases-loop-c : goal.decreases-loop-c
-decreases-loop-c l = l.n - l.c
+invariant-loop-c l = (l.mark < l.c) × ((d : ℕ) → l.mark < d → d < l.c → is_trial d ≡ true → ⊥)

@@ -1,10 +1,10 @@
 -- The loop's cells so far are those of `Come`, and the room holds their records.
 use Prim.Native.Nat.{ℕ, ◌-◌, ◌/◌, ◌<◌, ◌≤◌}
-use mathlib.Core.Path.{ap}
+use mathlib.Core.Path.{refl, ap}
 use mathlib.Core.Bool.{not}
 use lib.ListN.{length}
 use native.Mathlib.Omega.{arith}
-use borrow.Author.Tests.{not-true, not-false, ne_eqb, eq-eqb}
+use borrow.Author.Tests.{ne_eqb, eq-eqb}
 use Rattle.portions.specs.Portions.{Lawful}
 use Rattle.portions.proofs.Loop.{outcome-short, come_start, come_most, come_step, outcome-none, outcome-full, outcome-long, next-remains}
 use Rattle.small_rules.specs.between.Trial.{trial_rule, trials}
@@ -21,40 +21,40 @@ law n h = lawful n h
 pub returns-then-room-lt2 : goal.returns-then-room-lt2
 returns-then-room-lt2 c = outcome-short trial_rule (trials _) (law _ (omega arith)) _ _ (omega arith)
 
-pub loop-f-init : goal.loop-f-init
-loop-f-init c = come_start trial_rule (trials _) (law _ (omega arith)) _ _
+pub loop-c-init : goal.loop-c-init
+loop-c-init c = come_start trial_rule (trials _) (law _ (omega arith)) _ _
 
-pub shape_of-room-then-not-f : goal.shape_of-room-then-not-f
-shape_of-room-then-not-f c = c.loop-f.invariant.laid.same
+pub shape_of-room-in_default : goal.shape_of-room-in_default
+shape_of-room-in_default c = c.loop-c.invariant.laid.same
 
-pub returns-then-not-f : goal.returns-then-not-f
-returns-then-not-f c = outcome-none trial_rule (trials _) (law _ (omega arith)) c.loop-f.invariant (omega arith) (next-remains trial_rule (trials _) (law _ (omega arith)) c.next-f.ensures) (not-true _ c.if-not-f.true)
+pub returns-in_default : goal.returns-in_default
+returns-in_default c = outcome-none trial_rule (trials _) (law _ (omega arith)) c.loop-c.invariant (omega arith) (next-remains trial_rule (trials _) (law _ (omega arith)) c.in_default.ensures) refl
 
 pub shape_of-room-then-i-most : goal.shape_of-room-then-i-most
-shape_of-room-then-i-most c = c.loop-f.invariant.laid.same
+shape_of-room-then-i-most c = c.loop-c.invariant.laid.same
 
 pub returns-then-i-most : goal.returns-then-i-most
-returns-then-i-most c = outcome-full trial_rule (trials _) (law _ (omega arith)) c.loop-f.invariant (omega arith) (next-remains trial_rule (trials _) (law _ (omega arith)) c.next-f.ensures) (not-false _ c.if-not-f.false) c.if-i-most.true
+returns-then-i-most c = outcome-full trial_rule (trials _) (law _ (omega arith)) c.loop-c.invariant (omega arith) (next-remains trial_rule (trials _) (law _ (omega arith)) c.in-Some.ensures) refl c.if-i-most.true
 
 pub shape_of-room-then-c-eq40 : goal.shape_of-room-then-c-eq40
-shape_of-room-then-c-eq40 c = c.loop-f.invariant.laid.same
+shape_of-room-then-c-eq40 c = c.loop-c.invariant.laid.same
 
 pub returns-then-c-eq40 : goal.returns-then-c-eq40
-returns-then-c-eq40 c = let l = c.loop-f in outcome-long trial_rule (trials _) (law _ (omega arith)) l.invariant (omega arith) c.next-f.ensures (not-false _ c.if-not-f.false)
+returns-then-c-eq40 c = let l = c.loop-c in outcome-long trial_rule (trials _) (law _ (omega arith)) l.invariant (omega arith) c.in-Some.ensures refl
     (omega (arith, come_most trial_rule (trials _) (law _ (omega arith)) l.invariant, c.if-i-most.false))
     (ap not (eq-eqb _ 40 c.if-c-eq40.true))
 
 pub overflow_mul-i : goal.overflow_mul-i
-overflow_mul-i c = omega (arith, (let it : c.loop-f.i < length c.args.room.now / 2 = let l = c.loop-f in omega (arith, come_most trial_rule (trials _) (law _ (omega arith)) l.invariant, c.if-i-most.false) in it))
+overflow_mul-i c = omega (arith, (let it : c.loop-c.i < length c.args.room.now / 2 = let l = c.loop-c in omega (arith, come_most trial_rule (trials _) (law _ (omega arith)) l.invariant, c.if-i-most.false) in it))
 
 pub put-requires : goal.put-requires
-put-requires c = omega (arith, (let it : c.loop-f.i < length c.args.room.now / 2 = let l = c.loop-f in omega (arith, come_most trial_rule (trials _) (law _ (omega arith)) l.invariant, c.if-i-most.false) in it), c.loop-f.invariant.laid.same)
+put-requires c = omega (arith, (let it : c.loop-c.i < length c.args.room.now / 2 = let l = c.loop-c in omega (arith, come_most trial_rule (trials _) (law _ (omega arith)) l.invariant, c.if-i-most.false) in it), c.loop-c.invariant.laid.same)
 
 pub overflow_add-i : goal.overflow_add-i
-overflow_add-i c = omega (arith, (let it : c.loop-f.i < length c.args.room.now / 2 = let l = c.loop-f in omega (arith, come_most trial_rule (trials _) (law _ (omega arith)) l.invariant, c.if-i-most.false) in it))
+overflow_add-i c = omega (arith, (let it : c.loop-c.i < length c.args.room.now / 2 = let l = c.loop-c in omega (arith, come_most trial_rule (trials _) (law _ (omega arith)) l.invariant, c.if-i-most.false) in it))
 
-pub loop-f-smaller : goal.loop-f-smaller
-loop-f-smaller c = omega (arith, (let it : c.loop-f.i < length c.args.room.now / 2 = let l = c.loop-f in omega (arith, come_most trial_rule (trials _) (law _ (omega arith)) l.invariant, c.if-i-most.false) in it))
+pub loop-c-smaller : goal.loop-c-smaller
+loop-c-smaller c = omega (arith, (let it : c.loop-c.i < length c.args.room.now / 2 = let l = c.loop-c in omega (arith, come_most trial_rule (trials _) (law _ (omega arith)) l.invariant, c.if-i-most.false) in it))
 
-pub loop-f-preserved : goal.loop-f-preserved
-loop-f-preserved c = come_step trial_rule (trials _) (law _ (omega arith)) c.loop-f.invariant c.next-f.ensures (not-false _ c.if-not-f.false) ((let it : c.loop-f.i < length c.args.room.now / 2 = let l = c.loop-f in omega (arith, come_most trial_rule (trials _) (law _ (omega arith)) l.invariant, c.if-i-most.false) in it)) (ap not (ne_eqb _ 40 c.if-c-eq40.false)) c.put.ensures
+pub loop-c-preserved : goal.loop-c-preserved
+loop-c-preserved c = come_step trial_rule (trials _) (law _ (omega arith)) c.loop-c.invariant c.in-Some.ensures refl ((let it : c.loop-c.i < length c.args.room.now / 2 = let l = c.loop-c in omega (arith, come_most trial_rule (trials _) (law _ (omega arith)) l.invariant, c.if-i-most.false) in it)) (ap not (ne_eqb _ 40 c.if-c-eq40.false)) c.put.ensures

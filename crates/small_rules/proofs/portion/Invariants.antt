@@ -9,8 +9,8 @@ use Rattle.small_rules.proofs.next.Reads as next-reads
 use Rattle.small_rules.proofs.put.Reads as put_reads
 use Rattle.small_rules.proofs.portion.Given as goal
 
-abbrev pub invariant-loop-f : goal.invariant-loop-f
-invariant-loop-f l = Come trial_rule (trials l.n) (l.mark ∷ []) l.initial.room (l.k ∷ []) l.i l.room
+abbrev pub invariant-loop-c : goal.invariant-loop-c
+invariant-loop-c l = Come trial_rule (trials l.n) (l.mark ∷ []) l.initial.room (l.k ∷ []) l.i l.room
 
-abbrev pub decreases-loop-f : goal.decreases-loop-f
-decreases-loop-f l = l.most - l.i
+abbrev pub decreases-loop-c : goal.decreases-loop-c
+decreases-loop-c l = l.most - l.i

@@ -2,7 +2,7 @@
 use mathlib.Core.Path.{sym, ap, ◌∙◌}
 use mir.Syntax.{w64}
 use mir.ValLaws.{to_z-of_z}
-use Rattle.space.specs.declared.Boxed.TheVariants.{Value}
+use Rattle.std.specs.Prelude.{Some}
 use Rattle.space.specs.Box.{boxed}
 use Rattle.space.proofs.Near.{near-sized}
 use borrow.Author.Rules.{rules}
@@ -29,7 +29,7 @@ returns-then-is_near_point-4 c = rw (
   sym c.is_near_point-then-is_near_point-2.ensures ∙ c.if-is_near_point-3.true,
   sym c.is_near_point-then-is_near_point-3.ensures ∙ c.if-is_near_point-4.true,
 )
-    (ap Value (to_z-of_z w64 _ (search rules) ∙ c.volume.ensures))
+    (ap Some (to_z-of_z w64 _ (search rules) ∙ c.volume.ensures))
 
 pub returns-else-is_near_point : goal.returns-else-is_near_point
 unfolding boxed

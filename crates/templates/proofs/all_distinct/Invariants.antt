@@ -1,11 +1,6 @@
 -- `templates::all_distinct` meets its contract. Assumes nothing.
-use Prim.Native.Nat.{◌-◌}
-use lib.ListN.{length}
 use Rattle.base.proofs.Loop.{DistinctUp}
 use Rattle.templates.proofs.all_distinct.Given as goal
 
 abbrev pub invariant-loop-i : goal.invariant-loop-i
 invariant-loop-i l = DistinctUp l.c l.i
-
-abbrev pub decreases-loop-i : goal.decreases-loop-i
-decreases-loop-i l = length l.c - l.i

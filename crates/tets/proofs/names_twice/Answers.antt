@@ -1,12 +1,12 @@
 -- `tets::names_twice` meets its contract. Assumes nothing.
-use mathlib.Core.Path.{◌∙◌, ap}
-use mathlib.Core.Bool.{not}
-use mathlib.Core.List.{[], ◌∷◌}
-use lib.ListN.{get_or}
-use Rattle.base.specs.Lists.{distinct}
+use Rattle.std.proofs.Common.{rules}
 use Rattle.tets.specs.Tets.{twice}
 use Rattle.tets.proofs.names_twice.Goals as goal
 
-pub returns : goal.returns
+pub returns-then-b-d : goal.returns-then-b-d
 unfolding twice
-returns c = c.has_equal.ensures ∙ ap (λ l. not (distinct (get_or l 0 0 ∷ get_or l 1 0 ∷ get_or l 2 0 ∷ get_or l 3 0 ∷ []))) c.corners-c.ensures
+returns-then-b-d c = search rules
+
+pub returns-else-b-d : goal.returns-else-b-d
+unfolding twice
+returns-else-b-d c = search rules

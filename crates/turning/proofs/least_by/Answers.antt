@@ -1,7 +1,11 @@
 -- `turning::least_by` meets its contract. Assumes nothing.
-use mathlib.Core.Path.{sym, ◌∙◌, ap}
-use Rattle.templates.specs.between.Flat.{pairs}
-use Rattle.turning.specs.Form.{form_of, form_by}
+use Prim.Native.Nat.{◌/◌}
+use mathlib.Core.Path.{sym, ◌∙◌, ap, ap₂}
+use lib.ListN.{length}
+use Rattle.std.proofs.Math.Nat.{mul-div-le}
+use Rattle.templates.specs.between.Flat.{table_rows, pairs}
+use Rattle.std.specs.Prelude.{Some}
+use Rattle.turning.specs.Form.{form_of, form_by, least_by}
 use Rattle.turning.proofs.Last.{least-eight}
 use Rattle.turning.proofs.least_by.Goals as goal
 
@@ -10,9 +14,11 @@ unfolding form_by
 returns-then-not-all_distinct c = rw (sym c.all_distinct.ensures ∙ c.if-not-all_distinct.true)
 
 pub least_turn-requires : goal.least_turn-requires
-least_turn-requires c = c.requires.0
+least_turn-requires c = mul-div-le (length c.turns_of-turns.result.now) c.corners-k.result
 
 pub returns : goal.returns
 unfolding form_by
-returns c = let a = c.args in rw (sym c.all_distinct.ensures ∙ c.if-not-all_distinct.false)
-    (c.form.ensures ∙ ap form_of (c.least_turn.ensures ∙ least-eight a.c.now a.k a.n a.turns.now (pairs a.less.now) c.requires.1))
+returns c = let v = c.args.c.now in let k = c.corners-k.result in let turns = c.turns_of-turns.result.now in let ps = pairs c.less_of.result.now in
+    rw (sym c.all_distinct.ensures ∙ c.if-not-all_distinct.false)
+    (ap Some (c.least_turn.ensures ∙ least-eight v k (length turns / k) turns ps c.corners-k.ensures.1.1)
+    ∙ ap₂ (λ rows ps. form_of (least_by rows ps v)) (ap (λ k. table_rows k (length turns / k) turns) c.corners-k.ensures.0 ∙ c.turns_of-turns.ensures) c.less_of.ensures)

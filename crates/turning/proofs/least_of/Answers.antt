@@ -1,32 +1,16 @@
 -- `turning::least_of` meets its contract. Assumes nothing.
-use mathlib.Core.Path.{sym}
-use lib.Seq.{length-take-le}
-use native.Mathlib.Omega.{arith}
-use borrow.Author.Tests.{ne_eqb}
-use Rattle.turning.specs.Form.{least_form}
+use mathlib.Core.Path.{◌≡◌, sym, ◌∙◌, ap, ap₂}
+use lib.ListN.{take}
+use Rattle.templates.specs.Kinds.{template}
+use Rattle.templates.proofs.Numbered.{some-named, none-named}
+use Rattle.turning.specs.Form.{form_by, least_form}
 use Rattle.turning.proofs.least_of.Goals as goal
 
-pub slice_bounds-least_hexahedron-end : goal.slice_bounds-least_hexahedron-end
-slice_bounds-least_hexahedron-end c = sym (length-take-le 8 c.args.corners.now (omega arith))
-
-pub returns-then-kind-eq8 : goal.returns-then-kind-eq8
+pub returns-in_err-kind : goal.returns-in_err-kind
 unfolding least_form
-returns-then-kind-eq8 c = rw c.if-kind-eq8.true c.least_hexahedron.ensures
-
-pub slice_bounds-least_prism-end : goal.slice_bounds-least_prism-end
-slice_bounds-least_prism-end c = sym (length-take-le 6 c.args.corners.now (omega arith))
-
-pub returns-then-kind-eq6 : goal.returns-then-kind-eq6
-unfolding least_form
-returns-then-kind-eq6 c = rw c.if-kind-eq6.true c.least_prism.ensures
-
-pub slice_bounds-least_pyramid-end : goal.slice_bounds-least_pyramid-end
-slice_bounds-least_pyramid-end c = sym (length-take-le 5 c.args.corners.now (omega arith))
-
-pub returns-then-kind-eq5 : goal.returns-then-kind-eq5
-unfolding least_form
-returns-then-kind-eq5 c = rw c.if-kind-eq5.true c.least_pyramid.ensures
+returns-in_err-kind c = rw (none-named c.args.kind (sym c.named.ensures ∙ c.in_err-kind.was)) c.from_residual.ensures
 
 pub returns : goal.returns
 unfolding least_form
-returns c = rw (ne_eqb _ _ c.if-kind-eq8.false, ne_eqb _ _ c.if-kind-eq6.false, ne_eqb _ _ c.if-kind-eq5.false)
+returns c = let k = some-named c.args.kind (sym c.named.ensures ∙ c.in_ok-kind.was) in let vs = c.args.corners.now in let t = template c.in_ok-kind.kind in
+    rw k.0 (c.least_by.ensures ∙ ap (λ n. form_by t.turns t.less (take n vs)) c.corners.ensures.0 ∙ ap (λ t. form_by t.turns t.less (take t.corners vs)) k.1)

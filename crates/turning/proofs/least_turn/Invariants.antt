@@ -1,6 +1,5 @@
 -- `turning::least_turn` meets its contract. Assumes nothing.
 use mathlib.Core.List.{[]}
-use Prim.Native.Nat.{◌-◌}
 use Rattle.templates.specs.Tables.{at}
 use Rattle.templates.specs.between.Eight.{eight}
 use Rattle.templates.specs.between.Flat.{table_row, pairs}
@@ -10,6 +9,3 @@ use Rattle.turning.proofs.least_turn.Given as goal
 
 abbrev pub invariant-loop-i : goal.invariant-loop-i
 invariant-loop-i l = LastUp (rises_at (pairs l.less)) (λ i'. eight (at l.c (table_row l.k l.turns i'))) l.n (eight []) l.i l.best
-
-abbrev pub decreases-loop-i : goal.decreases-loop-i
-decreases-loop-i l = l.n - l.i

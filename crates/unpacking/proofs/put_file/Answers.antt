@@ -1,17 +1,13 @@
--- `unpacking::put_file` meets its contract. Assumes nothing.
-use mathlib.Core.Path.{sym}
-use lib.Seq.{length-take-le}
+-- `unpacking::put_file` meets its contract: what was read is what the file says. Assumes nothing.
+use Rattle.unpacking.proofs.Texts.{file-laid, file-fits}
 use borrow.Author.Rules.{rules}
 use Rattle.unpacking.proofs.put_file.Goals as goal
 
-pub slice_bounds-put_decoded-end : goal.slice_bounds-put_decoded-end
-slice_bounds-put_decoded-end c = sym (length-take-le _ _ (search rules))
+pub put_lists-requires : goal.put_lists-requires
+put_lists-requires c = let d = c.decode.ensures in
+    file-fits c.args.file.now c.requires.framed.1 d.coordinates d.numbers d.partition d.long.0 d.long.1.0 d.long.1.1 (search rules)
 
-pub slice_bounds-put_decoded-end-2 : goal.slice_bounds-put_decoded-end-2
-slice_bounds-put_decoded-end-2 c = sym (length-take-le _ _ (search rules))
-
-pub slice_bounds-put_decoded-end-3 : goal.slice_bounds-put_decoded-end-3
-slice_bounds-put_decoded-end-3 c = sym (length-take-le _ _ (search rules))
-
-pub put_decoded-requires : goal.put_decoded-requires
-put_decoded-requires c = record { framed = c.requires.framed; text_room_in_bounds = c.requires.text_room_in_bounds; coords_len = (length-take-le _ _ (search rules), (length-take-le _ _ (search rules), length-take-le _ _ (search rules))) }
+pub returns : goal.returns
+returns c = let d = c.decode.ensures in
+    let whole = file-laid c.args.file.now d.coordinates d.numbers d.partition (c.put_lists.ensures.next, c.put_lists.ensures.text) in
+    record { next = whole.0; text = whole.1 }

@@ -1,25 +1,16 @@
 -- `unpacking::put_vertices` meets its contract. The loop's invariant: the rows passed are laid from `from` on.
 -- Assumes nothing.
-use mathlib.Core.Path.{◌≡◌}
-use Prim.Native.Nat.{◌-◌}
 use native.Mathlib.Omega.{arith}
 use Rattle.writing_lists.specs.Printed.{line_of, vertex_row}
-use Rattle.unpacking.proofs.Rows.{no_rows, row_more, all-rows, rows-most, vertex-short}
+use Rattle.unpacking.proofs.Rows.{no_rows, row_more, rows-most, vertex-short}
 use Rattle.unpacking.proofs.put_vertices.Goals as goal
 
 pub loop-v-init : goal.loop-v-init
-loop-v-init c = let a = c.args in (omega arith, no_rows _ a.from a.out.now (omega arith))
+loop-v-init c = let a = c.args in no_rows _ a.from a.out.now (omega arith)
 
 pub put_vertex-at-requires : goal.put_vertex-at-requires
-put_vertex-at-requires c = let d = c.loop-v.invariant.1 in let m = rows-most (λ v. line_of (vertex_row c.args.coordinates.now v)) _ (vertex-short c.args.coordinates.now c.requires.close) c.loop-v.v in
+put_vertex-at-requires c = let d = c.loop-v.invariant in let m = rows-most (λ v. line_of (vertex_row c.args.coordinates.now v)) _ (vertex-short c.args.coordinates.now c.requires.close) c.loop-v.v in
     omega (arith, m, d.next, d.text.same)
 
 pub loop-v-preserved : goal.loop-v-preserved
-loop-v-preserved c = let p = c.put_vertex-at.ensures in (omega arith, row_more _ c.loop-v.invariant.1 p.next p.text)
-
-pub shape_of-out : goal.shape_of-out
-shape_of-out c = c.loop-v.invariant.1.text.same
-
-pub returns : goal.returns
-returns c = let a = c.args in let e : c.loop-v.v ≡ a.n = omega arith in
-    let whole = all-rows _ e c.loop-v.invariant.1 in record { next = whole.0; text = whole.1 }
+loop-v-preserved c = let p = c.put_vertex-at.ensures in row_more _ c.loop-v.invariant p.next p.text

@@ -9,15 +9,15 @@ pub returns-then-not-is_tuple : goal.returns-then-not-is_tuple
 unfolding first_failing
 returns-then-not-is_tuple c = λ t w e.
     sym
-    (rw (sym (c.is_tuple.ensures ∙ tuple_is c.args.coords.now c.args.labels.now c.args.parts.now c.args.c.now w) ∙ c.if-not-is_tuple.true))
+    (rw (sym (c.is_tuple.ensures ∙ tuple_is c.args.mesh.now.coords.now c.args.mesh.now.index.labels.now c.args.mesh.now.parts.now c.args.c.now w) ∙ c.if-not-is_tuple.true))
 
 pub returns-then-not-has_edges : goal.returns-then-not-has_edges
 unfolding first_failing
 returns-then-not-has_edges c = λ t w e.
     sym
     (rw (
-      sym (c.is_tuple.ensures ∙ tuple_is c.args.coords.now c.args.labels.now c.args.parts.now c.args.c.now w) ∙ c.if-not-is_tuple.false,
-      sym (c.has_edges.ensures ∙ edges-is c.args.coords.now c.args.labels.now c.args.parts.now c.args.c.now w e) ∙ c.if-not-has_edges.true,
+      sym (c.is_tuple.ensures ∙ tuple_is c.args.mesh.now.coords.now c.args.mesh.now.index.labels.now c.args.mesh.now.parts.now c.args.c.now w) ∙ c.if-not-is_tuple.false,
+      sym (c.has_edges.ensures ∙ edges-is c.args.mesh.now.coords.now c.args.mesh.now.index.labels.now c.args.mesh.now.parts.now c.args.c.now w e) ∙ c.if-not-has_edges.true,
     ))
 
 pub returns-then-not-has_faces : goal.returns-then-not-has_faces
@@ -25,9 +25,9 @@ unfolding first_failing
 returns-then-not-has_faces c = λ t w e.
     sym
     (rw (
-      sym (c.is_tuple.ensures ∙ tuple_is c.args.coords.now c.args.labels.now c.args.parts.now c.args.c.now w) ∙ c.if-not-is_tuple.false,
-      sym (c.has_edges.ensures ∙ edges-is c.args.coords.now c.args.labels.now c.args.parts.now c.args.c.now w e) ∙ c.if-not-has_edges.false,
-      sym (c.has_faces.ensures ∙ faces-is c.args.coords.now c.args.labels.now c.args.parts.now c.args.c.now w) ∙ c.if-not-has_faces.true,
+      sym (c.is_tuple.ensures ∙ tuple_is c.args.mesh.now.coords.now c.args.mesh.now.index.labels.now c.args.mesh.now.parts.now c.args.c.now w) ∙ c.if-not-is_tuple.false,
+      sym (c.has_edges.ensures ∙ edges-is c.args.mesh.now.coords.now c.args.mesh.now.index.labels.now c.args.mesh.now.parts.now c.args.c.now w e) ∙ c.if-not-has_edges.false,
+      sym (c.has_faces.ensures ∙ faces-is c.args.mesh.now.coords.now c.args.mesh.now.index.labels.now c.args.mesh.now.parts.now c.args.c.now w) ∙ c.if-not-has_faces.true,
     ))
 
 pub returns-then-not-is_sound : goal.returns-then-not-is_sound
@@ -35,23 +35,23 @@ unfolding first_failing
 returns-then-not-is_sound c = λ t w e.
     sym
     (rw (
-      sym (c.is_tuple.ensures ∙ tuple_is c.args.coords.now c.args.labels.now c.args.parts.now c.args.c.now w) ∙ c.if-not-is_tuple.false,
-      sym (c.has_edges.ensures ∙ edges-is c.args.coords.now c.args.labels.now c.args.parts.now c.args.c.now w e) ∙ c.if-not-has_edges.false,
-      sym (c.has_faces.ensures ∙ faces-is c.args.coords.now c.args.labels.now c.args.parts.now c.args.c.now w) ∙ c.if-not-has_faces.false,
-      sym (c.is_sound.ensures ∙ sound-is c.args.coords.now c.args.labels.now c.args.parts.now c.args.c.now w) ∙ c.if-not-is_sound.true,
+      sym (c.is_tuple.ensures ∙ tuple_is c.args.mesh.now.coords.now c.args.mesh.now.index.labels.now c.args.mesh.now.parts.now c.args.c.now w) ∙ c.if-not-is_tuple.false,
+      sym (c.has_edges.ensures ∙ edges-is c.args.mesh.now.coords.now c.args.mesh.now.index.labels.now c.args.mesh.now.parts.now c.args.c.now w e) ∙ c.if-not-has_edges.false,
+      sym (c.has_faces.ensures ∙ faces-is c.args.mesh.now.coords.now c.args.mesh.now.index.labels.now c.args.mesh.now.parts.now c.args.c.now w) ∙ c.if-not-has_faces.false,
+      sym (c.is_sound.ensures ∙ sound-is c.args.mesh.now.coords.now c.args.mesh.now.index.labels.now c.args.mesh.now.parts.now c.args.c.now w) ∙ c.if-not-is_sound.true,
     ))
 
 pub judge_found-requires : goal.judge_found-requires
-judge_found-requires c = record { numbered = c.find-found.ensures; labels_len_bound = (omega (arith, c.requires.arrays.indexed.labelled.few), c.requires.arrays.parted); lettered = c.requires.lettered }
+judge_found-requires c = record { numbered = c.find-found.ensures; labels_len_bound = (omega (arith, c.args.mesh.now.arrays.indexed.labelled.few), c.args.mesh.now.arrays.parted); lettered = c.args.tables.now.lettered }
 
 pub returns : goal.returns
 unfolding first_failing
 returns c = λ t w e.
-    c.judge_found.ensures ∙ last-is c.args.coords.now c.args.labels.now c.args.parts.now c.args.c.now w ∙
+    c.judge_found.ensures ∙ last-is c.args.mesh.now.coords.now c.args.mesh.now.index.labels.now c.args.mesh.now.parts.now c.args.c.now w ∙
     sym
     (rw (
-      sym (c.is_tuple.ensures ∙ tuple_is c.args.coords.now c.args.labels.now c.args.parts.now c.args.c.now w) ∙ c.if-not-is_tuple.false,
-      sym (c.has_edges.ensures ∙ edges-is c.args.coords.now c.args.labels.now c.args.parts.now c.args.c.now w e) ∙ c.if-not-has_edges.false,
-      sym (c.has_faces.ensures ∙ faces-is c.args.coords.now c.args.labels.now c.args.parts.now c.args.c.now w) ∙ c.if-not-has_faces.false,
-      sym (c.is_sound.ensures ∙ sound-is c.args.coords.now c.args.labels.now c.args.parts.now c.args.c.now w) ∙ c.if-not-is_sound.false,
+      sym (c.is_tuple.ensures ∙ tuple_is c.args.mesh.now.coords.now c.args.mesh.now.index.labels.now c.args.mesh.now.parts.now c.args.c.now w) ∙ c.if-not-is_tuple.false,
+      sym (c.has_edges.ensures ∙ edges-is c.args.mesh.now.coords.now c.args.mesh.now.index.labels.now c.args.mesh.now.parts.now c.args.c.now w e) ∙ c.if-not-has_edges.false,
+      sym (c.has_faces.ensures ∙ faces-is c.args.mesh.now.coords.now c.args.mesh.now.index.labels.now c.args.mesh.now.parts.now c.args.c.now w) ∙ c.if-not-has_faces.false,
+      sym (c.is_sound.ensures ∙ sound-is c.args.mesh.now.coords.now c.args.mesh.now.index.labels.now c.args.mesh.now.parts.now c.args.c.now w) ∙ c.if-not-is_sound.false,
     ))

@@ -1,20 +1,22 @@
 -- `verdict::rows::bounds_of` meets its contract. Assumes nothing.
-use mathlib.Core.Path.{sym}
-use borrow.Author.Tests.{eq-eqb, ne_eqb}
+use mathlib.Core.Path.{◌∙◌, sym}
 use Rattle.base.specs.Lists.{keep, spread}
+use Rattle.templates.proofs.Numbered.{counts-hexahedron, counts-prism, counts-pyramid}
 use Rattle.cells.specs.Cells.{inside, corner3}
 use Rattle.verdict.specs.between.FlatTables.{flat_tables, standing, bounds_of}
 use Rattle.verdict.proofs.OfKind.{bounded}
 use Rattle.verdict.proofs.rows.bounds_of.Goals as goal
 
-pub returns-then-kind-eq8 : goal.returns-then-kind-eq8
+pub returns-in-Hexahedron : goal.returns-in-Hexahedron
 unfolding bounds_of standing flat_tables spread inside keep corner3
-returns-then-kind-eq8 c = let whole = bounded c.args.kind (sym (rw (eq-eqb _ _ c.if-kind-eq8.true))) in record { value = whole.0; bounds_rise = whole.1 }
+returns-in-Hexahedron c = let k = c.args.kind in let whole = bounded k (sym (rw (counts-hexahedron k (sym c.in-Hexahedron.is ∙ c.from.ensures)))) in record { value = whole.0; bounds_rise = whole.1 }
 
-pub returns-then-kind-eq6 : goal.returns-then-kind-eq6
+pub returns-in-Prism : goal.returns-in-Prism
 unfolding bounds_of standing flat_tables spread inside keep corner3
-returns-then-kind-eq6 c = let whole = bounded c.args.kind (sym (rw (ne_eqb _ _ c.if-kind-eq8.false, eq-eqb _ _ c.if-kind-eq6.true))) in record { value = whole.0; bounds_rise = whole.1 }
+returns-in-Prism c = let k = c.args.kind in let at = counts-prism k (sym c.in-Prism.is ∙ c.from.ensures) in
+    let whole = bounded k (sym (rw (at.0, at.1))) in record { value = whole.0; bounds_rise = whole.1 }
 
-pub returns : goal.returns
+pub returns-in-Pyramid : goal.returns-in-Pyramid
 unfolding bounds_of standing flat_tables spread inside keep corner3
-returns c = let whole = bounded c.args.kind (sym (rw (ne_eqb _ _ c.if-kind-eq8.false, ne_eqb _ _ c.if-kind-eq6.false))) in record { value = whole.0; bounds_rise = whole.1 }
+returns-in-Pyramid c = let k = c.args.kind in let at = counts-pyramid k (sym c.in-Pyramid.is ∙ c.from.ensures) in
+    let whole = bounded k (sym (rw (at.0, at.1))) in record { value = whole.0; bounds_rise = whole.1 }

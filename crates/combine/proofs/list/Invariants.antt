@@ -1,9 +1,0 @@
--- The turns that are left are counted down.
-use Rattle.std.proofs.Common.{◌≡◌, length}
-use Rattle.combine.proofs.list.Given as goal
-
-abbrev pub invariant-loop-turns : goal.invariant-loop-turns
-invariant-loop-turns g l = Unit {0}
-
-abbrev pub decreases-loop-turns : goal.decreases-loop-turns
-decreases-loop-turns g l = l.turns

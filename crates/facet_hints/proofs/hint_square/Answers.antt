@@ -1,0 +1,10 @@
+-- `facet_hints::hint_square` meets its contract. Assumes nothing.
+use mathlib.Core.Path.{◌∙◌}
+use native.Mathlib.Omega.{arith}
+use Rattle.base.proofs.Loop.{part-is}
+use Rattle.facet_hints.proofs.Hinting.{front, square_next}
+use Rattle.facet_hints.proofs.hint_square.Goals as goal
+
+pub loop-i-preserved : goal.loop-i-preserved
+loop-i-preserved c = let l = c.loop-i in let vs = c.args.vs.now in let e = front vs l.i (omega arith) in
+    (c.hint_line.ensures.same ∙ l.invariant.0, λ m j. l.invariant.1 m (rw e (square_next (rw (part-is l.i vs ∙ e) at c.hint_line.ensures) j)))
