@@ -2,7 +2,7 @@
 // asks about a file's tetrahedra or cells. The tests stand in the order of the list `refusals`.
 #![tactic(auto)]
 
-ghost use Rattle.std.specs.Prelude.{◌≡◌, ◌*◌, ◌≤◌, ◌<◌, length, take, OnOk, ⊤};
+ghost use Rattle.std.specs.Prelude.{◌≡◌, ◌+◌, ◌*◌, ◌≤◌, ◌<◌, length, take, OnOk, ⊤};
 ghost use mathlib.Core.Option.{none};
 ghost use Rattle.std.specs.Borrow.{follows_so, sem};
 ghost use Rattle.base.specs.Refusals.{first_of};
@@ -108,6 +108,8 @@ fn read(
     let coords = &mut coords[..3 * vertices];
     let labels = &mut labels[..4 * tets];
     let parts = &mut parts[..tets];
+    let offsets = &mut offsets[..vertices + 1];
+    let entries = &mut entries[..4 * tets];
     decode(file, vertices, tets, coords, labels, parts);
     misread(coords, labels)?;
     index(labels, vertices, offsets, entries);
@@ -205,12 +207,15 @@ impl Room {
         ensures numbers { result.index.labels.now ≡ take (4 * counts.tets) self.now.labels }
         ensures partition { result.parts.now ≡ take counts.tets self.now.parts }
         ensures count { result.index.n ≡ counts.vertices }
+        ensures starts { result.index.offsets.now ≡ take (counts.vertices + 1) self.now.offsets }
+        ensures rows { result.index.entries.now ≡ take (4 * counts.tets) self.now.entries }
+        ensures long { (length result.index.offsets.now ≡ counts.vertices + 1) × (length result.index.entries.now ≡ length result.index.labels.now) }
     {
         let index = Index {
             labels: &self.labels[..4 * counts.tets],
             n: counts.vertices,
-            offsets: &self.offsets,
-            entries: &self.entries,
+            offsets: &self.offsets[..counts.vertices + 1],
+            entries: &self.entries[..4 * counts.tets],
         };
         Mesh {
             coords: &self.coords[..3 * counts.vertices],

@@ -222,7 +222,8 @@ fn list(
     }
 }
 
-// Lists the cells after a mark, at most so many.
+// Lists the cells after a mark, at most so many. The rooms of each job stand on the stack for that job alone.
+#[inline(never)]
 fn list_from(to: &mut impl Write, text: &mut [u8; TEXT], file: &[u8], from: Listing) {
     let mut table = [0; 25089];
     let mut records = [0; ROOM];
@@ -293,7 +294,8 @@ fn listing_asked(env: &impl Env) -> Option<Job> {
     }))
 }
 
-// The job that the arguments ask for, if they do.
+// The job that the arguments ask for, if they do. The words are read on the stack before the job begins, and not beside it.
+#[inline(never)]
 fn asked(env: &impl Env) -> Option<Job> {
     match count_words(env) {
         1 => Some(Job::List(Listing {

@@ -107,8 +107,12 @@ fn is_astray(coords: &[i64], f: Facet, w: Vertex) -> bool
     requires { Close coords.now }
     ensures { result ≡ at_facet (astray coords.now) f w.0 }
 {
-    let there = box_in(coords, f.a, f.b, f.c, f.u);
-    ![f.a.0, f.b.0, f.c.0].contains(&w.0) && !is_opposite(there, box_in(coords, f.a, f.b, f.c, w))
+    // A facet's own vertices need no box.
+    ![f.a.0, f.b.0, f.c.0].contains(&w.0)
+        && !is_opposite(
+            box_in(coords, f.a, f.b, f.c, f.u),
+            box_in(coords, f.a, f.b, f.c, w),
+        )
 }
 
 fn has_astray(coords: &[i64], labels: &[u16], f: Facet, m: Tet) -> bool

@@ -9,7 +9,7 @@ ghost use Rattle.templates.specs.Tables.{template_of, tuple_of, is_kind};
 ghost use Rattle.reasons.specs.Reason.{cell_by, turned_by, found_cell, finding_at, finding_of};
 ghost use Rattle.reasons.specs.Numbers.{entries_of};
 ghost use Rattle.judging.specs.between.Last.{number};
-ghost use Rattle.findings.specs.between.Numbers.{form_numbers};
+ghost use Rattle.findings.specs.between.Numbers.{form_numbers, number_of, entries_behind};
 
 use failing::{first_box, first_corner, first_edge, first_face};
 use least::is_least;
@@ -88,7 +88,7 @@ pub fn finding(mesh: &Mesh<'_>, kind: u16, tuple: &[u16; 8]) -> Finding
 // ---- by numbers
 
 // What was found, in the ten entries.
-pub fn hand_out(found: Finding, answer: &mut [u16; 10])
+fn put_entries(found: Finding, answer: &mut [u16; 10])
     ensures { answer.new ≡ entries_of found }
 {
     match found {
@@ -119,5 +119,19 @@ pub fn hand_out(found: Finding, answer: &mut [u16; 10])
         Finding::TwoParts => {
             *answer = [6, 0, 0, 0, 0, 0, 0, 0, 0, 0];
         }
+    }
+}
+
+// A refusal's number, whichever it is, and the entries as they were; or 0, and in the ten entries what was found.
+pub fn hand_out(found: Result<Finding, u8>, answer: &mut [u16; 10]) -> u8
+    ensures number { result ≡ number_of found }
+    ensures answer { answer.new ≡ entries_behind found answer.old }
+{
+    match found {
+        Ok(found) => {
+            put_entries(found, answer);
+            0
+        }
+        Err(number) => number,
     }
 }

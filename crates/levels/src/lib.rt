@@ -44,6 +44,13 @@ const THIRD: usize = 247;
 
 const AHEAD: usize = 266;
 
+// The tables as one array, for whoever would look them up by places of its own.
+pub fn tables() -> [u8; 380]
+    ensures { result ≡ levels }
+{
+    LEVELS
+}
+
 pub fn wide(x: u16) -> usize
     ensures { (result ≡ x) × (result < 65536) }
 {

@@ -14,7 +14,7 @@ use Rattle.writing_lists.specs.Printed.{signed_text}
 use Rattle.std.specs.Prelude.{None}
 use Rattle.reading_words.specs.declared.Reader.{Reader}
 use Rattle.reading_words.specs.declared.Form.{Form}
-use Rattle.reading_words.specs.declared.Form.TheVariants.{Empty, Minus, Number, Other}
+use Rattle.reading_words.specs.declared.Form.TheVariants.{Empty, Minus, Number, Other, Unnamed}
 use Rattle.reading_words.specs.Words.{is_blank, ends_word, is_digit, formed, sized}
 use Rattle.reading_words.specs.Steps.{grown, next, ends_number}
 use Rattle.reading_lists.specs.Reading.{Reading, reading, read1, read_all}
@@ -34,6 +34,7 @@ takes_digits Empty = true
 takes_digits Minus = true
 takes_digits Number = true
 takes_digits Other = false
+takes_digits (Unnamed i) = false
 
 -- ---- a digit
 
@@ -52,6 +53,7 @@ module _ (d : ℕ) (h : d < 10) where
   digit-forms Minus g = rw digit-is
   digit-forms Number g = rw digit-is
   digit-forms Other g = absurd (false≢true g)
+  digit-forms (Unnamed i) g = absurd (false≢true g)
 
   digit_signs : (m : Bool) → (m || eqb (48 + d) 45) ≡ m
   digit_signs true = refl

@@ -14,12 +14,12 @@ use tallies::{counts, own_at, sharers_at, two_parts_of};
 use templates::corner;
 use verdict::{Bounds, all_rows, bounds_of};
 
-// A tuple of a kind, and what was found of it.
+// A tuple of a kind, and what was found of it, or the number of a refusal, of which nothing is looked up.
 #[derive(Clone, Copy)]
 pub struct Asked {
     pub kind: u16,
     pub tuple: [u16; 8],
-    pub found: Finding,
+    pub found: Result<Finding, u8>,
 }
 
 // ---- where the row that is told stands
@@ -48,7 +48,7 @@ fn face_spot(triangles: usize, quads: usize, i: usize) -> Spot
     }
 }
 
-fn spot_of(kind: u16, found: Finding) -> Spot
+fn spot_of(kind: u16, found: Result<Finding, u8>) -> Spot
     ensures { result.at ≤ 1000 }
 {
     let Bounds {
@@ -61,13 +61,13 @@ fn spot_of(kind: u16, found: Finding) -> Spot
         end: _,
     } = bounds_of(kind);
     match found {
-        Finding::NoEdge(i) => Spot {
+        Ok(Finding::NoEdge(i)) => Spot {
             at: edges + 2 * ((i % 64) as usize),
             width: 2,
         },
-        Finding::NoFace(i) => face_spot(triangles, quads, (i % 64) as usize),
-        Finding::OpenFace(i) => face_spot(triangles, quads, (i % 64) as usize),
-        Finding::BadBox(i) => Spot {
+        Ok(Finding::NoFace(i)) => face_spot(triangles, quads, (i % 64) as usize),
+        Ok(Finding::OpenFace(i)) => face_spot(triangles, quads, (i % 64) as usize),
+        Ok(Finding::BadBox(i)) => Spot {
             at: triples + 4 * ((i % 64) as usize),
             width: 4,
         },
@@ -88,22 +88,28 @@ fn places(j: usize) -> [u8; 4]
 
 // ---- what the finding asks for
 
-fn counts_of(labels: &[u16], parts: &[u16], kind: u16, tuple: &[u16; 8], found: Finding) -> [u16; 4]
+fn counts_of(
+    labels: &[u16],
+    parts: &[u16],
+    kind: u16,
+    tuple: &[u16; 8],
+    found: Result<Finding, u8>,
+) -> [u16; 4]
     requires { length labels.now / 4 ≤ 2048 }
 {
     let Spot { at, width } = spot_of(kind, found);
     match found {
-        Finding::NoFace(_) => counts(tuple, places(at), width, |u, v, w| {
+        Ok(Finding::NoFace(_)) => counts(tuple, places(at), width, |u, v, w| {
             sharers_at(labels, u, v, w)
         }),
-        Finding::OpenFace(_) => counts(tuple, places(at), width, |u, v, w| {
+        Ok(Finding::OpenFace(_)) => counts(tuple, places(at), width, |u, v, w| {
             own_at(labels, kind, tuple, u, v, w)
         }),
-        Finding::OpenTriple(u, v, w) => {
+        Ok(Finding::OpenTriple(u, v, w)) => {
             let k = own_at(labels, kind, tuple, Vertex(u), Vertex(v), Vertex(w));
             [(k % 65536) as u16, 0, 0, 0]
         }
-        Finding::TwoParts => two_parts_of(labels, parts, kind, tuple),
+        Ok(Finding::TwoParts) => two_parts_of(labels, parts, kind, tuple),
         _ => [0; 4],
     }
 }
@@ -131,7 +137,7 @@ pub struct Seen {
 }
 
 // The line of the mesh, the row that is told and its counts.
-fn line_of(n: usize, kind: u16, found: Finding, counts: [u16; 4]) -> [u16; 10]
+fn line_of(n: usize, kind: u16, found: Result<Finding, u8>, counts: [u16; 4]) -> [u16; 10]
     ensures { 10 ≡ length result }
 {
     let Spot { at, width } = spot_of(kind, found);

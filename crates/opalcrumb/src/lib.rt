@@ -96,11 +96,8 @@ pub fn opalcrumb_why(file: &[u8], kind: u16, corners: &[u16; 8], answer: &mut [u
     ensures answer { answer.new ≡ entries_left (explained file.now kind corners.now) answer.old }
 {
     match why::explain(file, kind, corners) {
-        Ok(found) => {
-            findings::hand_out(found, answer);
-            0
-        }
-        Err(refusal) => u8::from(refusal) as u32,
+        Ok(found) => findings::hand_out(Ok(found), answer) as u32,
+        Err(refusal) => findings::hand_out(Err(u8::from(refusal)), answer) as u32,
     }
 }
 

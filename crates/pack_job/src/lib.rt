@@ -50,7 +50,8 @@ fn show_packed(
     }
 }
 
-// The job, with a text to read pieces of the input to and room for the file.
+// The job, with a text to read pieces of the input to and room for the file. Its rooms stand on the stack for it alone.
+#[inline(never)]
 pub fn pack(
     from: &mut impl Read,
     to: &mut impl Write,

@@ -5,7 +5,7 @@ use Rattle.std.specs.Prelude.{ℕ, ◌+◌, ◌*◌, ◌-◌, ◌/◌, ◌%◌, 
 use Rattle.reading_words.specs.declared.Reader.{Reader}
 use Rattle.reading_words.specs.declared.Form.TheVariants.{Empty}
 use Rattle.reading_words.specs.declared.Fault.{Fault}
-use Rattle.reading_words.specs.declared.Fault.TheVariants.{TooFew, TooMany, NoNumber, CountRange, CoordinateRange, EntryRange}
+use Rattle.reading_words.specs.declared.Fault.TheVariants.{TooFew, TooMany, NoNumber, CountRange, CoordinateRange, EntryRange, Unnamed}
 use Rattle.reading_words.specs.declared.Spot.{Spot}
 use Rattle.reading_words.specs.declared.Spot.TheVariants.{Count, Coordinate, Label, Part, Beyond}
 use Rattle.reading_words.specs.Words.{ends_word, is_empty, is_number, formed, sized}
@@ -37,7 +37,7 @@ most Beyond minus = 0
 
 -- ---- faults
 
--- the number that a person is told
+-- the number that a person is told; that of a fault without a name, which a reader that a caller made may have, as it is
 abbrev pub told : Fault → ℕ
 told TooFew = 1
 told TooMany = 2
@@ -45,6 +45,7 @@ told NoNumber = 3
 told CountRange = 4
 told CoordinateRange = 5
 told EntryRange = 6
+told (Unnamed k) = k
 
 -- of a number that is out of range there
 abbrev pub range_fault : Spot → Fault

@@ -6,17 +6,20 @@ ghost use Rattle.reading_words.specs.Words.{is_blank, ends_word, is_digit, forme
 ghost use Rattle.reading_words.specs.Steps.{told, wanted, tet_spot, spot_of, most, range_fault, word_fault, grown, counted, closed};
 ghost use Rattle.reading_words.specs.Steps.{line_behind, comment_behind, passed, next, ends_number};
 
-// What the word is that has begun: nothing yet, a minus sign alone, a number, or no number.
+// What the word is that has begun: nothing yet, a minus sign alone, a number, or no number. A reader is a value of plain
+// fields that any caller may make, so its form may be any number: one without a name here is taken as no number.
 #[derive(Clone, Copy, PartialEq, Eq, Debug)]
 pub enum Form {
     Empty,
     Minus,
     Number,
     Other,
+    Unnamed(u8),
 }
 
 // What is wrong with a text: too few numbers, too many, or a word that is no number; or a number out of range as a count,
-// as a coordinate, or as a vertex number or a part.
+// as a coordinate, or as a vertex number or a part. A reader that a caller made may have any number for its fault: one
+// without a name here ends the text as these do.
 #[derive(Clone, Copy, PartialEq, Eq, Debug)]
 pub enum Fault {
     TooFew,
@@ -25,9 +28,10 @@ pub enum Fault {
     CountRange,
     CoordinateRange,
     EntryRange,
+    Unnamed(u8),
 }
 
-// The number by which a person is told of a fault.
+// The number by which a person is told of a fault; one without a name is told as it is.
 impl From<Fault> for u8 {
     ghost from_gives = { λ f n. n ≡ told f };
 
@@ -39,6 +43,7 @@ impl From<Fault> for u8 {
             Fault::CountRange => 4,
             Fault::CoordinateRange => 5,
             Fault::EntryRange => 6,
+            Fault::Unnamed(number) => number,
         }
     }
 }
@@ -98,7 +103,7 @@ fn form_with(form: Form, b: u8) -> Form
     ensures { result ≡ formed form b }
 {
     match form {
-        Form::Other => Form::Other,
+        Form::Other | Form::Unnamed(_) => Form::Other,
         _ if is_digit(b) => Form::Number,
         Form::Empty if b == b'-' => Form::Minus,
         _ => Form::Other,

@@ -13,7 +13,8 @@ use output::{TEXT, show_front, tell_refused};
 use std::io::Write;
 
 // The job, of the file that was read, with a text in which that of every file has place. Answers whether the file's text
-// was written.
+// was written. What it takes stands on the stack for it alone.
+#[inline(never)]
 pub fn unpack<W: Write, E: Write>(
     to: &mut W,
     err: &mut E,

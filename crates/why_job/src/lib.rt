@@ -46,7 +46,8 @@ fn show_answer(
     show_found(to, out, file, asked)
 }
 
-// The job, of the file that was read, for a kind and eight numbers.
+// The job, of the file that was read, for a kind and eight numbers. What it takes stands on the stack for it alone.
+#[inline(never)]
 pub fn tell(
     to: &mut impl Write,
     err: &mut impl Write,
@@ -58,7 +59,12 @@ pub fn tell(
     match why::explain(file, kind, &tuple) {
         Err(refusal) => tell_refused(err, out, u8::from(refusal)),
         Ok(found) => {
-            if show_answer(to, out, file, Asked { kind, tuple, found }).is_err() {
+            let asked = Asked {
+                kind,
+                tuple,
+                found: Ok(found),
+            };
+            if show_answer(to, out, file, asked).is_err() {
                 tell_lost(err);
             }
         }

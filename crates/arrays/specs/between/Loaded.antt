@@ -1,6 +1,6 @@
 -- A file read into working arrays.
 -- Assumes nothing.
-use Rattle.std.specs.Prelude.{ℕ, ◌*◌, ◌≡◌, List, ℤ, pos, Result, Ok, Err, take, replicate}
+use Rattle.std.specs.Prelude.{ℕ, ◌+◌, ◌*◌, ◌≡◌, List, ℤ, pos, Result, Ok, Err, length, take, replicate}
 use Rattle.space.specs.Arrays.{mesh_of}
 use Rattle.tets_around.specs.declared.Mesh.{Mesh}
 use Rattle.tets_around.specs.between.Arrays.{Arrays}
@@ -10,9 +10,18 @@ use Rattle.refusals.specs.Named.{number_of}
 use Rattle.arrays.specs.Refusals.{refusal}
 use Rattle.arrays.specs.declared.Counts.{Counts}
 
+-- the arrays are the lists of the file f of n vertices, and no longer, nor is the index: n + 1 starts of rows, and a place
+-- among the rows to each label
+pub record Cut (f : List ℕ) (n : ℕ) (m : Mesh) : Type 0 where
+  pub coordinates : m.coords.now ≡ coords_of f
+  pub numbers : m.index.labels.now ≡ labels_of f
+  pub partition : m.parts.now ≡ parts_of f
+  pub starts_long : length m.index.offsets.now ≡ n + 1
+  pub rows_long : length m.index.entries.now ≡ length m.index.labels.now
+
 -- the refusal of the file f is told; or none applies, and the arrays hold its mesh of n vertices, with its index
 abbrev pub Loaded : List ℕ → ℕ → Result Mesh Refusal → Type 0
-Loaded f n (Ok m) = (0 ≡ refusal f) × ((mesh_of m.coords.now m.index.labels.now m.parts.now ≡ decoded f) × (m.index.n ≡ n))
+Loaded f n (Ok m) = (0 ≡ refusal f) × ((mesh_of m.coords.now m.index.labels.now m.parts.now ≡ decoded f) × ((m.index.n ≡ n) × Cut f n m))
 Loaded f n (Err r) = number_of r ≡ refusal f
 
 -- ---- a room's arrays, each with its values in front
@@ -33,4 +42,4 @@ pub record Holds (f : List ℕ) (c : Counts) (zs : List ℤ) (ls ps : List ℕ) 
 
 -- an accepted mesh of c's counts stands in them, with its index
 abbrev pub Ready : Counts → List ℤ → List ℕ → List ℕ → List ℕ → List ℕ → Type 0
-Ready c zs ls ps os es = Arrays (take (3 * c.vertices) zs) (take (4 * c.tets) ls) (take c.tets ps) c.vertices os es
+Ready c zs ls ps os es = Arrays (take (3 * c.vertices) zs) (take (4 * c.tets) ls) (take c.tets ps) c.vertices (take (c.vertices + 1) os) (take (4 * c.tets) es)

@@ -15,4 +15,4 @@ returns-in_err-mesh c = let f = c.args.file.now in
 
 pub returns : goal.returns
 returns c = let l = c.in_ok-mesh.ensures.loaded in let h = header-framed _ (sym c.in_ok-counts.ensures) in
-    promised_file _ (sym l.0) l.1.0 (l.1.1 ∙ h.vertex) c.portion_of.ensures
+    promised_file _ (sym l.0) l.1.0 (l.1.1.0 ∙ h.vertex) c.portion_of.ensures
