@@ -9,7 +9,7 @@ ghost use Rattle.templates.specs.Tables.{template_of, tuple_of, is_kind};
 ghost use Rattle.reasons.specs.Reason.{cell_by, turned_by, found_cell, finding_at, finding_of};
 ghost use Rattle.reasons.specs.Numbers.{entries_of};
 ghost use Rattle.judging.specs.between.Last.{number};
-ghost use Rattle.findings.specs.between.Numbers.{form_numbers, number_of, entries_behind};
+ghost use Rattle.findings.specs.between.Numbers.{form_numbers, number_behind, entries_behind};
 
 use failing::{first_box, first_corner, first_edge, first_face};
 use least::is_least;
@@ -124,7 +124,7 @@ fn put_entries(found: Finding, answer: &mut [u16; 10])
 
 // A refusal's number, whichever it is, and the entries as they were; or 0, and in the ten entries what was found.
 pub fn hand_out(found: Result<Finding, u8>, answer: &mut [u16; 10]) -> u8
-    ensures number { result ≡ number_of found }
+    ensures number { result ≡ number_behind found }
     ensures answer { answer.new ≡ entries_behind found answer.old }
 {
     match found {

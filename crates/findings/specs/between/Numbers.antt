@@ -10,9 +10,9 @@ form_numbers (Some xs) = xs
 form_numbers None = 0 ∷ 0 ∷ 0 ∷ 0 ∷ 0 ∷ 0 ∷ 0 ∷ 0 ∷ []
 
 -- a refusal's number, 0 where something was found
-abbrev pub number_of : Result Finding ℕ → ℕ
-number_of (Ok w) = 0
-number_of (Err k) = k
+abbrev pub number_behind : Result Finding ℕ → ℕ
+number_behind (Ok w) = 0
+number_behind (Err k) = k
 
 -- what was found in ten entries; a refusal leaves what was there
 abbrev pub entries_behind : Result Finding ℕ → List ℕ → List ℕ
