@@ -1,3 +1,4 @@
 pub mod Bounds
 pub mod Pieces
 pub mod Worked
+pub mod Names

@@ -1,12 +1,12 @@
 -- A text read into lent lists, and what it says.
 -- Assumes nothing.
-use Rattle.std.specs.Prelude.{ℕ, cond, List, [], ◌∷◌, ◌++◌, ltb, ℤ, pos, neg_ℤ, set, Option, Some, None, Result, Ok, Err}
+use Rattle.std.specs.Prelude.{ℕ, Bool, true, cond, List, [], ◌∷◌, ◌++◌, ltb, ℤ, pos, neg_ℤ, set, Option, Some, None, Result, Ok, Err}
 use Rattle.reading_words.specs.declared.Reader.{Reader}
 use Rattle.reading_words.specs.declared.Fault.{Fault}
 use Rattle.reading_words.specs.declared.Fault.TheVariants.{TooFew}
 use Rattle.reading_words.specs.declared.Spot.{Spot}
 use Rattle.reading_words.specs.declared.Spot.TheVariants.{Count, Coordinate, Label, Part, Beyond}
-use Rattle.reading_words.specs.Steps.{wanted, spot_of, next, ends_number}
+use Rattle.reading_words.specs.Steps.{wanted, spot_of, fault_named, next, ends_number}
 use Rattle.reading_lists.specs.declared.Sizes.{Sizes}
 use Rattle.reading_lists.specs.declared.Wrong.{Wrong}
 
@@ -81,3 +81,8 @@ said_at r None = cond (ltb r.count (wanted r)) (wrong TooFew r.line r.count (wan
 -- what a reader behind the last line end tells
 unfoldable pub said_by : Reader → Result Sizes Wrong
 said_by r = said_at r r.fault
+
+-- wrong, if it is, by a fault that has a name
+abbrev pub outcome_named : Result Sizes Wrong → Bool
+outcome_named (Ok s) = true
+outcome_named (Err w) = fault_named w.fault

@@ -1,14 +1,14 @@
 -- Lists as plain text: first the numbers of vertices and of tetrahedra, n and t; then three coordinates a vertex; then
 -- four vertex numbers and a part a tetrahedron. A text is read byte by byte, and its first fault ends it.
 -- Assumes nothing.
-use Rattle.std.specs.Prelude.{ℕ, ◌+◌, ◌*◌, ◌-◌, ◌/◌, ◌%◌, min, Bool, false, not, cond, ◌&&◌, ◌||◌, eqb, leb, ltb, Option, Some, None, is_some, is_none}
+use Rattle.std.specs.Prelude.{ℕ, ◌+◌, ◌*◌, ◌-◌, ◌/◌, ◌%◌, ◌≡◌, min, Bool, true, false, not, cond, ◌&&◌, ◌||◌, eqb, leb, ltb, Option, Some, None, is_some, is_none}
 use Rattle.reading_words.specs.declared.Reader.{Reader}
 use Rattle.reading_words.specs.declared.Form.TheVariants.{Empty}
 use Rattle.reading_words.specs.declared.Fault.{Fault}
 use Rattle.reading_words.specs.declared.Fault.TheVariants.{TooFew, TooMany, NoNumber, CountRange, CoordinateRange, EntryRange, Unnamed}
 use Rattle.reading_words.specs.declared.Spot.{Spot}
 use Rattle.reading_words.specs.declared.Spot.TheVariants.{Count, Coordinate, Label, Part, Beyond}
-use Rattle.reading_words.specs.Words.{ends_word, is_empty, is_number, formed, sized}
+use Rattle.reading_words.specs.Words.{ends_word, is_empty, is_number, form_named, formed, sized}
 
 -- ---- the places of the numbers
 
@@ -46,6 +46,16 @@ told CountRange = 4
 told CoordinateRange = 5
 told EntryRange = 6
 told (Unnamed k) = k
+
+-- it is one of the six that have a name
+abbrev pub fault_named : Fault → Bool
+fault_named TooFew = true
+fault_named TooMany = true
+fault_named NoNumber = true
+fault_named CountRange = true
+fault_named CoordinateRange = true
+fault_named EntryRange = true
+fault_named (Unnamed k) = false
 
 -- of a number that is out of range there
 abbrev pub range_fault : Spot → Fault
@@ -152,3 +162,15 @@ ends_number r b =
 -- at the beginning of a text
 abbrev pub begun : Reader
 begun = record { line = 1; comment = false; form = Empty; minus = false; size = 0; count = 0; n = 0; t = 0; fault = None }
+
+-- ---- names
+
+-- the fault that was met, if one was, has a name
+abbrev pub met_named : Option Fault → Bool
+met_named None = true
+met_named (Some k) = fault_named k
+
+-- a reader's form has a name, and so has its fault, if one was met
+pub record Named (r : Reader) : Type 0 where
+  pub form : form_named r.form ≡ true
+  pub fault : met_named r.fault ≡ true

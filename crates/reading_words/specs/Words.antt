@@ -39,6 +39,14 @@ is_number Number = true
 is_number Other = false
 is_number (Unnamed k) = false
 
+-- it has a name
+abbrev pub form_named : Form → Bool
+form_named Empty = true
+form_named Minus = true
+form_named Number = true
+form_named Other = true
+form_named (Unnamed k) = false
+
 -- what its digits say with a byte more; past 32 bits it does not matter by how much
 unfoldable pub sized : ℕ → ℕ → ℕ
 sized size b = cond (is_digit b) (cond (ltb 429496729 size) 4294967296 (10 * size + (b - 48))) size
